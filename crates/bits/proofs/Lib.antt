@@ -1,0 +1,3 @@
+pub mod Yes
+pub mod Bits
+pub mod Words
