@@ -107,3 +107,8 @@ unfolding meets
 meets-is n a b h =
     some-bit n (bitAnd a b) (lt-of-le-of-lt (and-le-l a b) h)
     ∙ any-same n (λ j. bit j (bitAnd a b)) (λ j. bit j a && bit j b) (λ j l. bit-and j a b)
+
+-- packing goes on by `with_bit`
+pub pack-next : (n w : ℕ) (f : ℕ → Bool) (b : Bool) → n < wordBits → w ≡ pack n f → b ≡ f n → withBit w n b ≡ pack (suc n) f
+unfolding pack
+pack-next n w f b l e q = with-is-plus w n b l ∙ ap₂ (λ (x : ℕ) (y : Bool). plusBit x n y) e q

@@ -1,0 +1,41 @@
+-- Arrays whose elements are replaced one after the other: a loop's turn, and what stands at each place in the end. Assumes nothing.
+use mathlib.Core.Path.{_≡_, refl, sym, ap, _∙_}
+use mathlib.Core.List.{List}
+use mathlib.Core.Logic.{⊎-elim}
+use Prim.Native.Nat.{ℕ, zero, suc, _≤_, _<_}
+use native.Mathlib.Nat.{not-suc-le-zero, le-of-suc-le-suc, eq-or-lt-of-le}
+use native.Mathlib.Omega.{arith}
+use lib.ListN.{length, getD, set, length-set}
+use lib.Seq.{getD-set-same, getD-set-other}
+use Rattle.cycle.specs.Each.{each}
+
+module _ {A : Type 0} (f : ℕ → A → A) (d : A) (l : List A) where
+  -- one turn of a loop that stores x at place n
+  pub each-next : (n : ℕ) (m : List A) (x : A) → m ≡ each n f d l → x ≡ f n (getD m n d) → set m n x ≡ each (suc n) f d l
+  unfolding each
+  each-next n m x e q = rw q (ap (λ (k : List A). set k n (f n (getD k n d))) e)
+
+  pub each-length : (n : ℕ) → length (each n f d l) ≡ length l
+  unfolding each
+  each-length zero = refl
+  each-length (suc n) = length-set (each n f d l) n (f n (getD (each n f d l) n d)) ∙ each-length n
+
+  -- places from n on are as they were
+  pub each-above : (n i : ℕ) → n ≤ i → getD (each n f d l) i d ≡ getD l i d
+  unfolding each
+  each-above zero i h = refl
+  each-above (suc n) i h =
+      getD-set-other (each n f d l) n i (f n (getD (each n f d l) n d)) d (λ e. omega arith) ∙ each-above n i (omega arith)
+
+  -- each place below n is replaced
+  pub each-at : (n i : ℕ) → i < n → n ≤ length l → getD (each n f d l) i d ≡ f i (getD l i d)
+  unfolding each
+  each-at zero i h k = absurd (not-suc-le-zero h)
+  each-at (suc n) i h k =
+      ⊎-elim
+      (λ (e : i ≡ n).
+      rw e
+      (getD-set-same (each n f d l) n (f n (getD (each n f d l) n d)) d (rw (each-length n) k) ∙ ap (f n) (each-above n n (omega arith))))
+      (λ (b : i < n).
+      getD-set-other (each n f d l) n i (f n (getD (each n f d l) n d)) d (λ e. omega arith) ∙ each-at n i b (omega arith))
+      (eq-or-lt-of-le (le-of-suc-le-suc h))

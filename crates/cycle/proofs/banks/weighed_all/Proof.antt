@@ -1,0 +1,66 @@
+-- `cycle::banks::weighed_all` meets its contract. Assumes nothing.
+use borrow.Author.Needs.{needs}
+use mathlib.Core.Path.{_≡_, refl, ap, sym, _∙_}
+use Prim.Native.Nat.{ℕ, _≤_, _-_}
+use native.Mathlib.Omega.{arith}
+use native.Mathlib.Numerals.{add-one}
+use Rattle.cycle.specs.Size.{moduleCount}
+use Rattle.cycle.specs.Each.{each}
+use Rattle.cycle.specs.Banks.{weighedAll}
+use Rattle.cycle.proofs.banks.weighed_all.Statement.{statement}
+use Rattle.cycle.proofs.banks.weighed_all.Tie as tie
+
+abbrev Inv-loop : tie.InvT-loop
+Inv-loop q next₀ m₀ next m = (m ≤ moduleCount) × (next ≡ weighedAll m q next₀)
+
+abbrev μ-loop : tie.MeasureT-loop
+μ-loop q next₀ m₀ next m = moduleCount - m
+
+loop-holds : tie.Need-loop-holds Inv-loop μ-loop
+unfolding weighedAll each
+loop-holds c = search needs
+
+mul-pair : tie.Need-mul-pair Inv-loop μ-loop
+mul-pair c = search needs
+
+array-copy-out-pair : tie.Need-array-copy-out-pair Inv-loop μ-loop
+array-copy-out-pair c = search needs
+
+weighed-requires : tie.Need-weighed-requires Inv-loop μ-loop
+weighed-requires c κs = search needs
+
+mul-next : tie.Need-mul-next Inv-loop μ-loop
+mul-next c = search needs
+
+array-set-from-next : tie.Need-array-set-from-next Inv-loop μ-loop
+array-set-from-next c = search needs
+
+add-m : tie.Need-add-m Inv-loop μ-loop
+add-m c = search needs
+
+loop-less : tie.Need-loop-less Inv-loop μ-loop
+loop-less c = search needs
+
+loop-again : tie.Need-loop-again Inv-loop μ-loop
+unfolding weighedAll each
+loop-again c = (search needs, rw add-one (cc))
+
+returns : tie.Need-returns Inv-loop μ-loop
+returns c = let e : c .before .loop .m ≡ moduleCount = omega arith in cc
+
+pub weighed-all-spec : {M : Type 1} → statement M
+weighed-all-spec =
+    tie.close
+    (tie.spec
+    Inv-loop
+    μ-loop
+    loop-holds
+    mul-pair
+    array-copy-out-pair
+    weighed-requires
+    mul-next
+    array-set-from-next
+    add-m
+    loop-less
+    loop-again
+    returns)

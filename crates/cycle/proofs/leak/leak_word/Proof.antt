@@ -1,0 +1,91 @@
+-- `cycle::leak::leak_word` meets its contract. Assumes nothing.
+use Rattle.bits.proofs.Words.{pack-next}
+use borrow.Author.Needs.{needs}
+use mathlib.Core.Path.{_≡_, refl, ap, sym, _∙_}
+use Prim.Native.Nat.{ℕ, _≤_, _-_}
+use native.Mathlib.Omega.{arith}
+use native.Mathlib.Numerals.{add-one}
+use Rattle.bits.specs.Bit.{pack}
+use Rattle.bits.proofs.Words.{with-is-plus}
+use Rattle.cycle.specs.Size.{jetCount}
+use Rattle.cycle.specs.Words.{jetLeaks, leakWord}
+use Rattle.cycle.proofs.leak.leak_word.Statement.{statement}
+use Rattle.cycle.proofs.leak.leak_word.Tie as tie
+
+abbrev Inv-loop : tie.InvT-loop
+Inv-loop words w₀ j₀ w j = (j ≤ jetCount) × (w ≡ pack j (jetLeaks words))
+
+abbrev μ-loop : tie.MeasureT-loop
+μ-loop words w₀ j₀ w j = jetCount - j
+
+loop-holds : tie.Need-loop-holds Inv-loop μ-loop
+unfolding pack
+loop-holds c = search needs
+
+mul-leaks : tie.Need-mul-leaks Inv-loop μ-loop
+mul-leaks c = search needs
+
+mul-leaks-2 : tie.Need-mul-leaks-2 Inv-loop μ-loop
+mul-leaks-2 c = search needs
+
+array-read-leaks : tie.Need-array-read-leaks Inv-loop μ-loop
+array-read-leaks c = search needs
+
+mul-leaks-3 : tie.Need-mul-leaks-3 Inv-loop μ-loop
+mul-leaks-3 c = search needs
+
+add-leaks : tie.Need-add-leaks Inv-loop μ-loop
+add-leaks c = search needs
+
+mul-leaks-4 : tie.Need-mul-leaks-4 Inv-loop μ-loop
+mul-leaks-4 c = search needs
+
+array-read-leaks-2 : tie.Need-array-read-leaks-2 Inv-loop μ-loop
+array-read-leaks-2 c = search needs
+
+leaks-requires : tie.Need-leaks-requires Inv-loop μ-loop
+leaks-requires c κs = search needs
+
+with-bit-requires : tie.Need-with-bit-requires Inv-loop μ-loop
+with-bit-requires c κs = search needs
+
+add-j : tie.Need-add-j Inv-loop μ-loop
+add-j c = search needs
+
+loop-less : tie.Need-loop-less Inv-loop μ-loop
+loop-less c = search needs
+
+loop-again : tie.Need-loop-again Inv-loop μ-loop
+loop-again c = (
+  search needs,
+  rw add-one
+      (c .with-bit .ensures
+      ∙ pack-next (c .before .before .before .loop .j) (c .before .before .before .loop .w)
+      (jetLeaks (c .before .before .before .before .before .args .t .words)) (c .before .leaks .result) (omega arith)
+      (c .before .before .before .loop .inv .1) (c .before .leaks .ensures)),
+)
+
+returns : tie.Need-returns Inv-loop μ-loop
+unfolding leakWord
+returns c = let e : c .before .loop .j ≡ jetCount = omega arith in cc
+
+pub leak-word-spec : {M : Type 1} → statement M
+leak-word-spec =
+    tie.close
+    (tie.spec
+    Inv-loop
+    μ-loop
+    loop-holds
+    mul-leaks
+    mul-leaks-2
+    array-read-leaks
+    mul-leaks-3
+    add-leaks
+    mul-leaks-4
+    array-read-leaks-2
+    leaks-requires
+    with-bit-requires
+    add-j
+    loop-less
+    loop-again
+    returns)

@@ -1,0 +1,18 @@
+-- `cycle::leak::leaks` meets its contract. Assumes nothing.
+use mathlib.Core.Path.{ap₂}
+use mathlib.Core.Bool.{Bool, _||_}
+use borrow.Author.Needs.{needs}
+use Rattle.cycle.proofs.leak.leaks.Statement.{statement}
+use Rattle.cycle.proofs.leak.leaks.Tie as tie
+
+cold-requires : tie.Need-cold-requires
+cold-requires c κs = search needs
+
+cold-requires-2 : tie.Need-cold-requires-2
+cold-requires-2 c κs = search needs
+
+returns : tie.Need-returns
+returns c = ap₂ (λ (x y : Bool). x || y) (c .before .cold .ensures) (c .cold2 .ensures)
+
+pub leaks-spec : {M : Type 1} → statement M
+leaks-spec = tie.close (tie.spec cold-requires cold-requires-2 returns)

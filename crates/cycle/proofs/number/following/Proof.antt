@@ -1,0 +1,63 @@
+-- `cycle::number::following` meets its contract. Assumes nothing.
+use mathlib.Core.Bool.{not}
+use Prim.Native.Nat.{_+_}
+use Rattle.cycle.specs.Numbers.{isMajor}
+use mathlib.Core.Path.{_≡_, refl, ap, ap₂, sym, _∙_}
+use native.Mathlib.Omega.{arith}
+use Rattle.cycle.proofs.Numbers.{follows-ended, follows-wrong, follows-right}
+use borrow.Author.Needs.{needs}
+use Rattle.cycle.proofs.number.following.Statement.{statement}
+use Rattle.cycle.proofs.number.following.Tie as tie
+
+sub-if1 : tie.Need-sub-if1
+sub-if1 c = search needs
+
+returns : tie.Need-returns
+returns c = sym (follows-ended (c .before .args .n) (c .before .args .d) (c .before .args .gap) (c .before .args .major) (omega arith))
+
+add-new : tie.Need-add-new
+add-new c = search needs
+
+is-major-requires : tie.Need-is-major-requires
+is-major-requires c κs = search needs
+
+missed-major-requires : tie.Need-missed-major-requires
+missed-major-requires c κs = search needs
+
+returns-2 : tie.Need-returns-2
+returns-2 c =
+    let a = c .before .before .before .before .before .args in
+    let kind : isMajor (a .n + a .d) ≡ a .major = sym (c .before .before .before .is-major .ensures) ∙ c .before .if2 .taken ∙ sym (c .if3 .taken) in
+    cc (follows-right (a .n) (a .d) (a .gap) (a .major) (omega arith) kind)
+
+returns-3 : tie.Need-returns-3
+returns-3 c =
+    let a = c .before .before .before .before .before .args in
+    let kind : isMajor (a .n + a .d) ≡ not (a .major) = sym (c .before .before .before .is-major .ensures) ∙ c .before .if2 .taken ∙ sym (ap not (c .if3 .left)) in
+    cc (follows-wrong (a .n) (a .d) (a .gap) (a .major) (omega arith) kind)
+
+returns-4 : tie.Need-returns-4
+returns-4 c =
+    let a = c .before .before .before .before .before .args in
+    let kind : isMajor (a .n + a .d) ≡ not (a .major) = sym (c .before .before .before .is-major .ensures) ∙ c .before .if2 .left ∙ sym (ap not (c .if4 .taken)) in
+    cc (follows-wrong (a .n) (a .d) (a .gap) (a .major) (omega arith) kind)
+
+returns-5 : tie.Need-returns-5
+returns-5 c =
+    let a = c .before .before .before .before .before .args in
+    let kind : isMajor (a .n + a .d) ≡ a .major = sym (c .before .before .before .is-major .ensures) ∙ c .before .if2 .left ∙ sym (c .if4 .left) in
+    cc (follows-right (a .n) (a .d) (a .gap) (a .major) (omega arith) kind)
+
+pub following-spec : {M : Type 1} → statement M
+following-spec =
+    tie.close
+    (tie.spec
+    sub-if1
+    returns
+    add-new
+    is-major-requires
+    missed-major-requires
+    returns-2
+    returns-3
+    returns-4
+    returns-5)

@@ -1,0 +1,42 @@
+-- `cycle::string::AtManifold::manifold` meets its contract. Assumes nothing.
+use Rattle.cycle.specs.Words.{manifold}
+use borrow.Author.Needs.{needs}
+use Rattle.cycle.proofs.string.AtManifold.manifold.Statement.{statement}
+use Rattle.cycle.proofs.string.AtManifold.manifold.Tie as tie
+
+without-requires : tie.Need-without-requires
+without-requires c κs = search needs
+
+without-requires-2 : tie.Need-without-requires-2
+without-requires-2 c κs = search needs
+
+without-requires-3 : tie.Need-without-requires-3
+without-requires-3 c κs = search needs
+
+returns : tie.Need-returns
+unfolding manifold
+returns c = rw (c .before .if1 .taken, c .if2 .taken)
+
+returns-2 : tie.Need-returns-2
+unfolding manifold
+returns-2 c = rw (c .before .before .before .before .if1 .taken, c .before .before .before .if2 .left) (cc)
+
+returns-3 : tie.Need-returns-3
+unfolding manifold
+returns-3 c = rw (c .before .before .if1 .left, c .before .if3 .taken) (cc)
+
+returns-4 : tie.Need-returns-4
+unfolding manifold
+returns-4 c = rw (c .before .if1 .left, c .if3 .left)
+
+pub manifold-spec : {M : Type 1} → statement M
+manifold-spec =
+    tie.close
+    (tie.spec
+    without-requires
+    without-requires-2
+    without-requires-3
+    returns
+    returns-2
+    returns-3
+    returns-4)

@@ -1,0 +1,24 @@
+-- `cycle::string::StringState::rechecked` meets its contract. Assumes nothing.
+use mathlib.Core.Path.{ap, _∙_}
+use Prim.Native.Nat.{ℕ}
+use lib.Bits.{bitOr}
+use Rattle.cycle.specs.Size.{manifoldCount}
+use Rattle.cycle.specs.Words.{withClose, closeBits, rechecked}
+use borrow.Author.Needs.{needs}
+use Rattle.cycle.proofs.string.StringState.rechecked.Statement.{statement}
+use Rattle.cycle.proofs.string.StringState.rechecked.Tie as tie
+
+without-requires : tie.Need-without-requires
+without-requires c κs = search needs
+
+close-bits-requires : tie.Need-close-bits-requires
+close-bits-requires c κs = search needs
+
+returns : tie.Need-returns
+unfolding rechecked
+returns c =
+    let a = c .before .before .before .before .args in
+    ap (λ (x : ℕ). withClose (bitOr (a .self .close) x) (a .self)) (c .before .close-bits .ensures ∙ ap (closeBits manifoldCount (a .masks .words)) (c .before .before .without .ensures))
+
+pub rechecked-spec : {M : Type 1} → statement M
+rechecked-spec = tie.close (tie.spec without-requires close-bits-requires returns)

@@ -1,0 +1,103 @@
+-- The hall of four strings: which answer a record gets, and the next hall. 01, "Which answer a record gets" and "One cycle of a string".
+-- Assumes nothing.
+use mathlib.Core.Bool.{Bool, true, false, cond}
+use mathlib.Core.List.{List, []}
+use Prim.Native.Nat.{ℕ}
+use lib.ListN.{getD, replicate}
+use Rattle.bits.specs.Bit.{bit}
+use Rattle.cycle.specs.Size.{stringCount, manifoldCount, moduleCount}
+use Rattle.cycle.specs.Each.{each}
+use Rattle.cycle.specs.Map.{noMasks, pastMasks, refused}
+use Rattle.cycle.specs.Numbers.{judged}
+use Rattle.cycle.specs.Words.{noOff, noOn, fresh, minorCycle, majorCycle}
+use Rattle.cycle.specs.Banks.{noBank, weighedAll}
+use Rattle.cycle.specs.Records.{Record, minor, major, majorKind, common}
+use Rattle.cycle.specs.declared.answer.Answer.{Answer}
+use Rattle.cycle.specs.declared.answer.Answer.the-variants.{Taken, MapRefused}
+use Rattle.cycle.specs.declared.number.Next.{Next}
+use Rattle.cycle.specs.declared.number.Verdict.{Verdict}
+use Rattle.cycle.specs.declared.number.Verdict.the-variants.{Takes, Refuses}
+use Rattle.cycle.specs.declared.map.Masks.{Masks}
+use Rattle.cycle.specs.declared.string.Standing.{Standing}
+use Rattle.cycle.specs.declared.string.StringState.{StringState}
+use Rattle.cycle.specs.declared.values.Sample.{Sample}
+use Rattle.cycle.specs.declared.values.Minor.{Minor}
+use Rattle.cycle.specs.declared.values.Temperatures.{Temperatures}
+use Rattle.cycle.specs.declared.values.Requests.{Requests}
+use Rattle.cycle.specs.declared.values.Major.{Major}
+use Rattle.cycle.specs.declared.hall.Hall.{Hall}
+use Rattle.cycle.specs.declared.hall.Stepped.{Stepped}
+
+-- what stands past the end of the arrays of a record and of a hall
+abbrev pub noSample : Sample
+noSample = record { commanded = 0; pressure = 0; driver = 0; valves = 0 }
+
+abbrev pub noTemperatures : Temperatures
+noTemperatures = record { words = [] }
+
+abbrev pub noRequests : Requests
+noRequests = record { inhibit = 0; reenable = 0 }
+
+abbrev pub pastStanding : Standing
+pastStanding = record { fail = 0; valves = 0; saved = [] }
+
+abbrev pub pastString : StringState
+pastString = record
+    { standing = pastStanding; good = pastStanding; off = noOff; on = noOn; over = record { inhibit = 0; reenable = 0 }; close = 0; lost = false }
+
+-- string s's part of the map and of a record
+abbrev pub masksOf : List Masks → ℕ → List ℕ
+masksOf masks s = (getD masks s pastMasks) .words
+
+abbrev pub sampleOf : Minor → ℕ → Sample
+sampleOf r s = getD (r .samples) s noSample
+
+-- "n, 0 when fresh"
+unfoldable pub freshHall : List Masks → Hall
+freshHall masks = record
+    { n = 0; masks = masks; strings = replicate stringCount fresh; banks = replicate moduleCount noBank }
+
+-- starting over a map: 6 "if two masks of one string overlap", and then "a fresh one over the empty map"
+unfoldable pub started : List Masks → Stepped
+started masks =
+    cond (refused stringCount masks) (record { answer = MapRefused; hall = freshHall (replicate stringCount noMasks) })
+    (record { answer = Taken; hall = freshHall masks })
+
+-- steps 1 to 4 of the lowest n strings; bit s of the path byte: the data path of string s has failed
+unfoldable pub minorStrings : ℕ → List Masks → Minor → Bool → Bool → List StringState → List StringState
+minorStrings n masks r gap missed strings =
+    each n (λ s x. minorCycle manifoldCount (masksOf masks s) (bit s (r .path)) (sampleOf r s) gap missed x) pastString strings
+
+-- steps 5 to 8 of the lowest n strings
+unfoldable pub majorStrings : ℕ → List Masks → Major → List StringState → List StringState
+majorStrings n masks r strings =
+    each n
+    (λ s x.
+    majorCycle manifoldCount (masksOf masks s) (bit s (r .minor .path)) (sampleOf (r .minor) s)
+    (getD (r .temperatures) s noTemperatures) (getD (r .requests) s noRequests) x)
+    pastString strings
+
+-- the next hall, where the record is taken
+unfoldable pub taken : Record → Next → Hall → Hall
+taken (minor r) next h = record {
+  n = next .n;
+  masks = h .masks;
+  strings = minorStrings stringCount (h .masks) r (next .gap) (next .missed) (h .strings);
+  banks = h .banks;
+}
+taken (major r) next h = record {
+  n = next .n;
+  masks = h .masks;
+  strings =
+      majorStrings stringCount (h .masks) r
+      (minorStrings stringCount (h .masks) (r .minor) (next .gap) (next .missed) (h .strings));
+  banks = weighedAll moduleCount (r .quantities) (h .banks);
+}
+
+-- by the verdict: "stepped", or "as before"
+abbrev pub steppedBy : Verdict → Record → Hall → Stepped
+steppedBy (Takes next) r h = record { answer = Taken; hall = taken r next h }
+steppedBy (Refuses a) r h = record { answer = a; hall = h }
+
+unfoldable pub stepped : Record → Hall → Stepped
+stepped r h = steppedBy (judged (h .n) ((common r) .wire) (majorKind r)) r h

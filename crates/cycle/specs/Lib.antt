@@ -1,0 +1,14 @@
+pub mod Size
+pub mod Answers
+pub mod Each
+pub mod Map
+pub mod Numbers
+pub mod Leak
+pub mod Jets
+pub mod Words
+pub mod Banks
+pub mod Records
+pub mod Hall
+pub mod Views
+pub mod Proper
+pub mod Close

@@ -1,0 +1,46 @@
+-- The sizes and limits of 01, each under one name; src/size.rt says the same. Assumes nothing.
+use Prim.Native.Nat.{ℕ, _-_, _^_}
+use Rattle.bits.specs.Bit.{wordBits}
+
+-- 01, "Jets, strings, manifolds": four strings, 0 to 3
+abbrev pub stringCount : ℕ
+stringCount = 4
+
+-- a string has 32 jets: the bits of a word
+abbrev pub jetCount : ℕ
+jetCount = wordBits
+
+-- each string has four manifolds
+abbrev pub manifoldCount : ℕ
+manifoldCount = 4
+
+-- "all four valves remembered as open": a bit for each manifold
+abbrev pub allOpen : ℕ
+allOpen = 2 ^ manifoldCount - 1
+
+-- two nitrogen banks in each of three modules
+abbrev pub moduleCount : ℕ
+moduleCount = 3
+
+-- a major cycle falls on each 25th
+abbrev pub majorEvery : ℕ
+majorEvery = 25
+
+-- the full cycle number goes up to 4,294,967,295
+abbrev pub lastCount : ℕ
+lastCount = 4294967295
+
+-- 01, "Which answer a record gets": d is taken modulo 65,536, and is stale from 32,768 on
+abbrev pub wireSpan : ℕ
+wireSpan = 65536
+
+abbrev pub staleFrom : ℕ
+staleFrom = 32768
+
+-- step 6: a temperature word below 64 leaks
+abbrev pub leakBelow : ℕ
+leakBelow = 64
+
+-- out of balance: quantities that differ by more than 16 tenths
+abbrev pub mostApart : ℕ
+mostApart = 16

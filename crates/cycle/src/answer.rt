@@ -1,0 +1,33 @@
+// The answers of document 01's table.
+ghost use mathlib.Core.Path.{_≡_};
+ghost use Rattle.cycle.specs.Answers.{numberOf};
+
+pub enum Answer {
+    Taken,
+    Stale,
+    Repeat,
+    CountEnded,
+    WrongKind,
+    OutboxShort,
+    MapRefused,
+    // No record was settled: no refusal, and no number of the table.
+    NothingSettled,
+}
+
+impl Answer {
+    // The answer's number in the table.
+    pub fn number(self) -> u8
+        ensures { λ r. ⌜ r ≡ numberOf self ⌝ }
+    {
+        match self {
+            Answer::Taken => 0,
+            Answer::Stale => 1,
+            Answer::Repeat => 2,
+            Answer::CountEnded => 3,
+            Answer::WrongKind => 4,
+            Answer::OutboxShort => 5,
+            Answer::MapRefused => 6,
+            Answer::NothingSettled => 255,
+        }
+    }
+}

@@ -1,0 +1,60 @@
+// The nitrogen banks: balance of each module.
+ghost use mathlib.Core.Path.{_≡_};
+ghost use Rattle.cycle.specs.Size.{moduleCount};
+ghost use Rattle.cycle.specs.Banks.{noBank, weighed, weighedAll};
+use crate::size::MODULES;
+use crate::size::MOST_APART;
+use crate::values::Quantities;
+
+// What is reported of a module: out of balance, the oxidizer is the lesser, and the lesser quantity.
+pub struct Bank {
+    pub unbalanced: bool,
+    pub oxidizer: bool,
+    pub lesser: u16,
+}
+
+impl Bank {
+    // Nothing known yet.
+    pub fn unknown() -> Bank
+        ensures { λ r. ⌜ r ≡ noBank ⌝ }
+    {
+        Bank {
+            unbalanced: false,
+            oxidizer: false,
+            lesser: 0,
+        }
+    }
+}
+
+// One module's two quantities compared.
+pub fn weighed(q: Quantities) -> Bank
+    ensures { λ r. ⌜ r ≡ weighed q ⌝ }
+{
+    if q.oxidizer < q.fuel {
+        Bank {
+            unbalanced: MOST_APART < q.fuel - q.oxidizer,
+            oxidizer: true,
+            lesser: q.oxidizer,
+        }
+    } else {
+        Bank {
+            unbalanced: MOST_APART < q.oxidizer - q.fuel,
+            oxidizer: false,
+            lesser: q.fuel,
+        }
+    }
+}
+
+// All modules, each compared anew.
+pub fn weighed_all(banks: [Bank; MODULES], q: [Quantities; MODULES]) -> [Bank; MODULES]
+    ensures { λ r. ⌜ r ≡ weighedAll moduleCount q banks ⌝ }
+{
+    let mut next = banks;
+    let mut m: usize = 0;
+    while m < MODULES {
+        let pair = q[m];
+        next[m] = weighed(pair);
+        m += 1;
+    }
+    next
+}

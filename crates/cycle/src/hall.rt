@@ -1,0 +1,180 @@
+// The hall: four strings and the banks, stepped by the values of one record.
+ghost use mathlib.Core.Path.{_≡_};
+ghost use mathlib.Core.Bool.{true, false};
+ghost use Rattle.cycle.specs.Size.{stringCount};
+ghost use Rattle.cycle.specs.Hall.{freshHall, started, minorStrings, majorStrings, stepped};
+ghost use Rattle.cycle.specs.Records.{Record};
+use crate::answer::Answer;
+use crate::banks::Bank;
+use crate::banks::weighed_all;
+use crate::map::Masks;
+use crate::map::refused;
+use crate::number::Next;
+use crate::number::Verdict;
+use crate::number::judged;
+use crate::size::MODULES;
+use crate::size::STRINGS;
+use crate::string::StringState;
+use crate::values::Major;
+use crate::values::Minor;
+use bits::has;
+
+pub struct Hall {
+    // The full cycle number.
+    pub n: u32,
+    pub masks: [Masks; STRINGS],
+    pub strings: [StringState; STRINGS],
+    pub banks: [Bank; MODULES],
+}
+
+// What a step gives back.
+pub struct Stepped {
+    pub answer: Answer,
+    pub hall: Hall,
+}
+
+// Steps 1 to 4 of every string.
+pub fn minor_strings(
+    strings: [StringState; STRINGS],
+    masks: [Masks; STRINGS],
+    r: Minor,
+    gap: bool,
+    missed: bool,
+) -> [StringState; STRINGS]
+    ensures { λ x. ⌜ x ≡ minorStrings stringCount masks r gap missed strings ⌝ }
+{
+    let path = r.path as u32;
+    let mut next = strings;
+    let mut s: usize = 0;
+    while s < STRINGS {
+        let string = next[s];
+        let m = masks[s];
+        let sample = r.samples[s];
+        next[s] = string.minor_cycle(m, has(path, s), sample, gap, missed);
+        s += 1;
+    }
+    next
+}
+
+// Steps 5 to 8 of every string.
+pub fn major_strings(
+    strings: [StringState; STRINGS],
+    masks: [Masks; STRINGS],
+    r: Major,
+) -> [StringState; STRINGS]
+    ensures { λ x. ⌜ x ≡ majorStrings stringCount masks r strings ⌝ }
+{
+    let minor = r.minor;
+    let path = minor.path as u32;
+    let mut next = strings;
+    let mut s: usize = 0;
+    while s < STRINGS {
+        let string = next[s];
+        let m = masks[s];
+        let sample = minor.samples[s];
+        let t = r.temperatures[s];
+        let q = r.requests[s];
+        next[s] = string.major_cycle(m, has(path, s), sample, t, q);
+        s += 1;
+    }
+    next
+}
+
+impl Hall {
+    // Nothing seen yet.
+    pub fn fresh(masks: [Masks; STRINGS]) -> Hall
+        ensures { λ r. ⌜ r ≡ freshHall masks ⌝ }
+    {
+        let string = StringState::fresh();
+        let bank = Bank::unknown();
+        let strings = [string; STRINGS];
+        let banks = [bank; MODULES];
+        Hall {
+            n: 0,
+            masks: masks,
+            strings: strings,
+            banks: banks,
+        }
+    }
+
+    // A minor record's values.
+    pub fn minor(self, r: Minor) -> Stepped
+        ensures { λ x. ⌜ x ≡ stepped (Record.minor r) self ⌝ }
+    {
+        let v = judged(self.n, r.wire, false);
+        match v {
+            Verdict::Takes(next) => {
+                let masks = self.masks;
+                let before = self.strings;
+                let banks = self.banks;
+                let strings = minor_strings(before, masks, r, next.gap, next.missed);
+                let hall = Hall {
+                    n: next.n,
+                    masks: masks,
+                    strings: strings,
+                    banks: banks,
+                };
+                Stepped {
+                    answer: Answer::Taken,
+                    hall: hall,
+                }
+            }
+            Verdict::Refuses(answer) => Stepped {
+                answer: answer,
+                hall: self,
+            },
+        }
+    }
+
+    // A major record's values.
+    pub fn major(self, r: Major) -> Stepped
+        ensures { λ x. ⌜ x ≡ stepped (Record.major r) self ⌝ }
+    {
+        let minor = r.minor;
+        let v = judged(self.n, minor.wire, true);
+        match v {
+            Verdict::Takes(next) => {
+                let masks = self.masks;
+                let before = self.strings;
+                let held = self.banks;
+                let quantities = r.quantities;
+                let halfway = minor_strings(before, masks, minor, next.gap, next.missed);
+                let strings = major_strings(halfway, masks, r);
+                let banks = weighed_all(held, quantities);
+                let hall = Hall {
+                    n: next.n,
+                    masks: masks,
+                    strings: strings,
+                    banks: banks,
+                };
+                Stepped {
+                    answer: Answer::Taken,
+                    hall: hall,
+                }
+            }
+            Verdict::Refuses(answer) => Stepped {
+                answer: answer,
+                hall: self,
+            },
+        }
+    }
+}
+
+// Starting over a map: accepted, or 6 and a fresh hall over the empty map.
+pub fn start(masks: [Masks; STRINGS]) -> Stepped
+    ensures { λ x. ⌜ x ≡ started masks ⌝ }
+{
+    if refused(masks) {
+        let none = Masks::none();
+        let empty = [none; STRINGS];
+        Stepped {
+            answer: Answer::MapRefused,
+            hall: Hall::fresh(empty),
+        }
+    } else {
+        Stepped {
+            answer: Answer::Taken,
+            hall: Hall::fresh(masks),
+        }
+    }
+}

@@ -1,0 +1,31 @@
+// The sizes and limits of document 01, each under one name; specs/Size says the same.
+
+// Four strings, 0 to 3.
+pub const STRINGS: usize = 4;
+
+// A string has 32 jets.
+pub const JETS: usize = 32;
+
+// Each string has four manifolds.
+pub const MANIFOLDS: usize = 4;
+
+// All valves open: a bit for each manifold.
+pub const ALL_OPEN: u32 = 15;
+
+// Two temperature words a jet, fuel then oxidizer.
+pub const TEMPERATURES: usize = 64;
+
+// Three modules, each with a fuel and an oxidizer bank.
+pub const MODULES: usize = 3;
+
+// A major cycle falls on each 25th.
+pub const MAJOR_EVERY: u32 = 25;
+
+// The full cycle number goes up to this.
+pub const LAST_COUNT: u32 = 4294967295;
+
+// A jet leaks below this temperature word.
+pub const LEAK_BELOW: u16 = 64;
+
+// A module is in balance up to this difference, in tenths of a percent.
+pub const MOST_APART: u16 = 16;
