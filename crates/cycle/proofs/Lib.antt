@@ -1,5 +1,11 @@
 pub mod Numbers
 pub mod Each
+pub mod SetsKept
+pub mod ProperKept
+pub mod StepsAgree
+pub mod ManifoldsAgree
+pub mod RecordsAgree
+pub mod CyclesAgree
 pub mod CloseSteps
 pub mod CloseSpans
 pub mod CloseSlots

@@ -1,0 +1,116 @@
+-- The packed steps 1 to 4 and 5 to 8 do to jet j on manifold i what the jet's rules say; manifold i's close bit is set by steps 5 to 8
+-- exactly where one of its jets asks for it, and never cleared. Assumes nothing.
+use mathlib.Core.Path.{_≡_, refl, ap, ap₂, _∙_}
+use mathlib.Core.Bool.{Bool, true, false, cond, _&&_, _||_}
+use mathlib.Core.List.{List}
+use Prim.Native.Nat.{ℕ, _<_}
+use lib.Bits.{bitAnd}
+use lib.ListN.{getD}
+use Rattle.bits.specs.Bit.{wordBits, bit, meets, any}
+use Rattle.bits.proofs.Bits.{bit-or}
+use Rattle.bits.proofs.Words.{pack-at, meets-is, any-same}
+use Rattle.cycle.specs.Size.{jetCount}
+use Rattle.cycle.specs.Map.{mapped}
+use Rattle.cycle.specs.Numbers.{missedCycle, missedMajor}
+use Rattle.cycle.specs.Jets as jets
+use Rattle.cycle.specs.Words as words
+use Rattle.cycle.specs.Views.{jetOf, jetSays}
+use Rattle.cycle.specs.Proper.{inMask, Disjoint, ProperString}
+use Rattle.cycle.specs.declared.jet.JetState.{JetState}
+use Rattle.cycle.specs.declared.string.StringState.{StringState}
+use Rattle.cycle.specs.declared.values.Sample.{Sample}
+use Rattle.cycle.specs.declared.values.Temperatures.{Temperatures}
+use Rattle.cycle.specs.declared.values.Requests.{Requests}
+use Rattle.cycle.proofs.ProperKept.{recovered-proper, gapped-proper, off-failure-proper}
+use Rattle.cycle.proofs.StepsAgree.{recovered-agrees, gapped-agrees, off-failure-agrees, rechecked-agrees}
+use Rattle.cycle.proofs.StepsAgree.{on-failure-agrees, kept-agrees}
+use Rattle.cycle.proofs.ManifoldsAgree.{manifolds-agree}
+use Rattle.cycle.proofs.RecordsAgree.{afterRequests, badOf, asking, heard, requests-heard, bad-agrees, asked}
+
+-- ---- the jet
+
+module _ (m i j : ℕ) (masks : List ℕ) (x : Sample) (q : Requests) (t : Temperatures) (old n : ℕ) (path : Bool) (s : StringState)
+    (d : Disjoint m masks) (below : i < m) (stands : inMask masks i j) (p : ProperString m masks s) where
+  pub minor-steps-agree : jetOf i j (words.minorSteps m masks x (missedCycle old n) (missedMajor old n) s)
+      ≡ jets.minorSteps old (jetSays n path i j x q t) (jetOf i j s)
+  unfolding words.minorSteps jets.minorSteps
+  minor-steps-agree =
+      let gap : Bool = missedCycle old n in
+      let missed : Bool = missedMajor old n in
+      let commanded : ℕ = bitAnd (mapped m masks) (x .commanded) in
+      let a : StringState = words.recovered s in
+      let b : StringState = words.gapped gap missed a in
+      let c : StringState = words.offFailure commanded (x .pressure) b in
+      let proper : ProperString m masks c =
+      off-failure-proper m masks commanded (x .pressure) b (gapped-proper m masks gap missed a (recovered-proper m masks s p)) in
+      manifolds-agree m i j masks (x .valves) c d below stands proper
+      ∙ ap (jets.manifoldStep (bit i (x .valves)))
+      (off-failure-agrees i j commanded (x .pressure) b
+      ∙ ap₂ (λ (v : Bool) (y : JetState). jets.offFailure v (bit j (x .pressure)) y) (heard m i j masks below stands (x .commanded))
+      (gapped-agrees i j gap missed a ∙ ap (jets.gapped gap missed) (recovered-agrees i j s)))
+
+  pub major-steps-agree : j < jetCount
+      → jetOf i j (words.majorSteps m masks x (words.leakWord t) q s) ≡ jets.majorSteps (jetSays n path i j x q t) (jetOf i j s)
+  unfolding words.majorSteps jets.majorSteps
+  major-steps-agree inWord =
+      let bad : ℕ = badOf m masks x (words.leakWord t) in
+      let r : StringState = afterRequests m masks q s in
+      let c : StringState = words.rechecked m masks bad r in
+      kept-agrees i j (words.onFailure bad c)
+      ∙ ap jets.kept
+      (on-failure-agrees i j bad c
+      ∙ ap₂ jets.onFailure (bad-agrees m i j masks below stands x q t n path inWord)
+      (rechecked-agrees i j m masks bad r ∙ requests-heard m i j masks below stands q s))
+
+-- ---- the close bits
+
+pub major-steps-close : (m i : ℕ) (masks : List ℕ) (x : Sample) (q : Requests) (t : Temperatures) (n : ℕ) (path : Bool) (s : StringState)
+    → Disjoint m masks → i < m → ProperString m masks s
+    → bit i ((words.majorSteps m masks x (words.leakWord t) q s) .close)
+    ≡ (bit i (s .close)
+    || any jetCount
+    (λ j. bit j (getD masks i 0)
+    && jets.asks (jets.isBad (jetSays n path i j x q t))
+    (jets.requested (bit j (q .inhibit)) (bit j (q .reenable)) (jetOf i j s))))
+unfolding words.majorSteps words.kept words.onFailure words.rechecked words.requested words.closeBits
+major-steps-close m i masks x q t n path s d below p =
+    let w : ℕ = asking m masks x (words.leakWord t) (afterRequests m masks q s) in
+    let mask : ℕ = getD masks i 0 in
+    bit-or i (s .close) (words.closeBits m masks w)
+    ∙ ap (λ (b : Bool). bit i (s .close) || b)
+    (pack-at m (λ k. meets (getD masks k 0) w) i below
+    ∙ meets-is wordBits mask w (d .fits i below)
+    ∙ any-same jetCount (λ j. bit j mask && bit j w) (λ j. bit j mask && asks j) (λ j l. by j l (bit j mask) refl))
+  where
+    asks : ℕ → Bool
+    asks j =
+        jets.asks (jets.isBad (jetSays n path i j x q t))
+        (jets.requested (bit j (q .inhibit)) (bit j (q .reenable)) (jetOf i j s))
+
+    by : (j : ℕ) → j < jetCount → (b : Bool) → bit j (getD masks i 0) ≡ b
+        → (bit j (getD masks i 0) && bit j (asking m masks x (words.leakWord t) (afterRequests m masks q s)))
+        ≡ (bit j (getD masks i 0) && asks j)
+    by j l true e = ap (λ (b : Bool). bit j (getD masks i 0) && b) (asked m i j masks below e x q t n path l s)
+    by j l false e = rw e
+
+recovered-close : (s : StringState) → (words.recovered s) .close ≡ s .close
+unfolding words.recovered
+recovered-close s = by (s .lost)
+  where
+    by : (b : Bool)
+        → (cond b (words.withLost false (words.withOn words.noOn (words.withOff words.noOff (words.withStanding (s .good) s)))) s) .close
+        ≡ s .close
+    by true = refl
+    by false = refl
+
+gapped-close : (gap missed : Bool) (s : StringState) → (words.gapped gap missed s) .close ≡ s .close
+unfolding words.gapped
+gapped-close true true s = refl
+gapped-close true false s = refl
+gapped-close false true s = refl
+gapped-close false false s = refl
+
+pub minor-steps-close : (m : ℕ) (masks : List ℕ) (x : Sample) (gap missed : Bool) (s : StringState)
+    → (words.minorSteps m masks x gap missed s) .close ≡ s .close
+unfolding words.minorSteps words.manifolds words.offFailure
+minor-steps-close m masks x gap missed s = gapped-close gap missed (words.recovered s) ∙ recovered-close s

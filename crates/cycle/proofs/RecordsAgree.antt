@@ -1,0 +1,88 @@
+-- What a record says of jet j on manifold i is what the packed words of the record say at bit j: the mapped jets, the requests carried
+-- out, the bad jets, and those that ask for their manifold's close bit. Assumes nothing.
+use mathlib.Core.Path.{_≡_, sym, ap, ap₂, _∙_}
+use mathlib.Core.Bool.{Bool, true, not, _&&_, _||_, and-comm}
+use mathlib.Core.List.{List}
+use mathlib.Core.Logic.{⊎-elim}
+use Prim.Native.Nat.{ℕ, zero, suc, _<_}
+use native.Mathlib.Nat.{eq-or-lt-of-le, le-of-suc-le-suc, not-suc-le-zero}
+use lib.Bits.{bitAnd, bitOr}
+use lib.ListN.{getD}
+use Rattle.bits.specs.Bit.{bit, without}
+use Rattle.bits.proofs.Yes.{or-left, or-right}
+use Rattle.bits.proofs.Bits.{bit-and, bit-or, bit-without}
+use Rattle.bits.proofs.Words.{pack-at}
+use Rattle.cycle.specs.Size.{jetCount}
+use Rattle.cycle.specs.Map.{mapped}
+use Rattle.cycle.specs.Jets as jets
+use Rattle.cycle.specs.Words as words
+use Rattle.cycle.specs.Views.{jetOf, jetSays}
+use Rattle.cycle.specs.Proper.{inMask}
+use Rattle.cycle.specs.declared.string.StringState.{StringState}
+use Rattle.cycle.specs.declared.values.Sample.{Sample}
+use Rattle.cycle.specs.declared.values.Temperatures.{Temperatures}
+use Rattle.cycle.specs.declared.values.Requests.{Requests}
+use Rattle.cycle.proofs.StepsAgree.{requested-agrees}
+
+-- a jet of one of the lowest n masks is mapped
+mapped-jet : (n i j : ℕ) (masks : List ℕ) → i < n → inMask masks i j → bit j (mapped n masks) ≡ true
+unfolding mapped
+mapped-jet zero i j masks l h = absurd (not-suc-le-zero l)
+mapped-jet (suc n) i j masks l h =
+    let lower : Bool = bit j (mapped n masks) in
+    let this : Bool = bit j (getD masks n 0) in
+    bit-or j (mapped n masks) (getD masks n 0)
+    ∙ ⊎-elim (λ (e : i ≡ n). or-right lower this (ap (λ (k : ℕ). bit j (getD masks k 0)) (sym e) ∙ h))
+    (λ (b : i < n). or-left lower this (mapped-jet n i j masks b h)) (eq-or-lt-of-le (le-of-suc-le-suc l))
+
+-- the leak word
+leak-agrees : (t : Temperatures) (j : ℕ) → j < jetCount → bit j (words.leakWord t) ≡ words.jetLeaks (t .words) j
+unfolding words.leakWord
+leak-agrees t j = pack-at jetCount (words.jetLeaks (t .words)) j
+
+-- the words that steps 5 and 6 go by: the string after its requests, the bad jets, those that ask for their manifold's close bit
+abbrev pub afterRequests : ℕ → List ℕ → Requests → StringState → StringState
+afterRequests m masks q s = words.requested (bitAnd (mapped m masks) (q .inhibit)) (bitAnd (mapped m masks) (q .reenable)) s
+
+abbrev pub badOf : ℕ → List ℕ → Sample → ℕ → ℕ
+badOf m masks x leaking = words.badJets (mapped m masks) (x .commanded) (x .driver) leaking
+
+abbrev pub asking : ℕ → List ℕ → Sample → ℕ → StringState → ℕ
+asking m masks x leaking s = without (bitAnd (s .on .recheck) (badOf m masks x leaking)) (s .over .reenable)
+
+module _ (m i j : ℕ) (masks : List ℕ) (below : i < m) (stands : inMask masks i j) where
+  -- a word cut down to mapped jets has the jet's bit still
+  pub heard : (w : ℕ) → bit j (bitAnd (mapped m masks) w) ≡ bit j w
+  heard w = bit-and j (mapped m masks) w ∙ ap (λ (b : Bool). b && bit j w) (mapped-jet m i j masks below stands)
+
+  -- step 5
+  pub requests-heard : (q : Requests) (s : StringState)
+      → jetOf i j (afterRequests m masks q s)
+      ≡ jets.requested (bit j (q .inhibit)) (bit j (q .reenable)) (jetOf i j s)
+  requests-heard q s =
+      requested-agrees i j (bitAnd (mapped m masks) (q .inhibit)) (bitAnd (mapped m masks) (q .reenable)) s
+      ∙ ap₂ (λ (a e : Bool). jets.requested a e (jetOf i j s)) (heard (q .inhibit)) (heard (q .reenable))
+
+  module _ (x : Sample) (q : Requests) (t : Temperatures) (n : ℕ) (path : Bool) (inWord : j < jetCount) where
+    -- step 6
+    pub bad-agrees : bit j (badOf m masks x (words.leakWord t)) ≡ jets.isBad (jetSays n path i j x q t)
+    unfolding words.badJets jets.isBad
+    bad-agrees =
+        let shows : ℕ = bitOr (x .driver) (words.leakWord t) in
+        let acts : Bool = bit j (x .driver) || words.jetLeaks (t .words) j in
+        let e : bit j shows ≡ acts =
+        bit-or j (x .driver) (words.leakWord t) ∙ ap (λ (b : Bool). bit j (x .driver) || b) (leak-agrees t j inWord) in
+        bit-without j (bitAnd (mapped m masks) shows) (x .commanded)
+        ∙ ap (λ (b : Bool). b && not (bit j (x .commanded))) (heard shows ∙ e)
+        ∙ and-comm acts (not (bit j (x .commanded)))
+
+    -- the jet asks for its manifold's close bit exactly where its bit is in the word of those that do
+    pub asked : (s : StringState)
+        → bit j (asking m masks x (words.leakWord t) (afterRequests m masks q s))
+        ≡ jets.asks (jets.isBad (jetSays n path i j x q t))
+        (jets.requested (bit j (q .inhibit)) (bit j (q .reenable)) (jetOf i j s))
+    asked s =
+        let r : StringState = afterRequests m masks q s in
+        let bad : ℕ = badOf m masks x (words.leakWord t) in
+        let e : bit j (asking m masks x (words.leakWord t) r) ≡ jets.asks (bit j bad) (jetOf i j r) = simp (bit-and, bit-without) in
+        e ∙ ap₂ jets.asks bad-agrees (requests-heard q s)
