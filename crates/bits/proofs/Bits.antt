@@ -124,6 +124,10 @@ fill (suc k) (suc j) n a e l =
     let g : n / 2 + a / 2 + 1 ≡ 2 ^ k = omega arith in
     bit-suc j n ∙ fill k j (n / 2) (a / 2) g (le-of-suc-le-suc l) ∙ ap not (sym (bit-suc j a))
 
+-- all k low bits of 2 ^ k - 1 are set
+pub bit-ones : (k j : ℕ) → j < k → bit j (2 ^ k - 1) ≡ true
+bit-ones k j l = fill k j (2 ^ k - 1) 0 (omega (arith, pow-pos k)) l ∙ ap not (bit-none j)
+
 pub and-not-is-without : (a b : ℕ) → a < 2 ^ 32 → b < 2 ^ 32 → bitAnd a ((2 ^ 32 - 1) - b) ≡ without a b
 unfolding without
 and-not-is-without a b ha hb =

@@ -112,3 +112,17 @@ meets-is n a b h =
 pub pack-next : (n w : ℕ) (f : ℕ → Bool) (b : Bool) → n < wordBits → w ≡ pack n f → b ≡ f n → withBit w n b ≡ pack (suc n) f
 unfolding pack
 pack-next n w f b l e q = with-is-plus w n b l ∙ ap₂ (λ (x : ℕ) (y : Bool). plusBit x n y) e q
+
+-- 'some' of two tests joined
+pub any-or : (n : ℕ) (f g : ℕ → Bool) → any n (λ j. f j || g j) ≡ (any n f || any n g)
+any-or n f g =
+    same-yes (any n (λ j. f j || g j)) (any n f || any n g)
+    (λ p.
+    let x = any-found n (λ j. f j || g j) p in
+    ⊎-elim (λ (a : f (x .0) ≡ true). or-left (any n f) (any n g) (any-at n f (x .0) (x .1) a))
+    (λ (b : g (x .0) ≡ true). or-right (any n f) (any n g) (any-at n g (x .0) (x .1) b)) (or-cases (f (x .0)) (g (x .0)) (x .2)))
+    (λ p.
+    ⊎-elim
+    (λ (a : any n f ≡ true). let x = any-found n f a in any-at n (λ j. f j || g j) (x .0) (x .1) (or-left (f (x .0)) (g (x .0)) (x .2)))
+    (λ (b : any n g ≡ true). let x = any-found n g b in any-at n (λ j. f j || g j) (x .0) (x .1) (or-right (f (x .0)) (g (x .0)) (x .2)))
+    (or-cases (any n f) (any n g) p))

@@ -1,15 +1,11 @@
 -- What a record says of jet j on manifold i is what the packed words of the record say at bit j: the mapped jets, the requests carried
 -- out, the bad jets, and those that ask for their manifold's close bit. Assumes nothing.
-use mathlib.Core.Path.{_≡_, sym, ap, ap₂, _∙_}
+use mathlib.Core.Path.{_≡_, ap, ap₂, _∙_}
 use mathlib.Core.Bool.{Bool, true, not, _&&_, _||_, and-comm}
 use mathlib.Core.List.{List}
-use mathlib.Core.Logic.{⊎-elim}
-use Prim.Native.Nat.{ℕ, zero, suc, _<_}
-use native.Mathlib.Nat.{eq-or-lt-of-le, le-of-suc-le-suc, not-suc-le-zero}
+use Prim.Native.Nat.{ℕ, _<_}
 use lib.Bits.{bitAnd, bitOr}
-use lib.ListN.{getD}
 use Rattle.bits.specs.Bit.{bit, without}
-use Rattle.bits.proofs.Yes.{or-left, or-right}
 use Rattle.bits.proofs.Bits.{bit-and, bit-or, bit-without}
 use Rattle.bits.proofs.Words.{pack-at}
 use Rattle.cycle.specs.Size.{jetCount}
@@ -22,18 +18,8 @@ use Rattle.cycle.specs.declared.string.StringState.{StringState}
 use Rattle.cycle.specs.declared.values.Sample.{Sample}
 use Rattle.cycle.specs.declared.values.Temperatures.{Temperatures}
 use Rattle.cycle.specs.declared.values.Requests.{Requests}
+use Rattle.cycle.proofs.Maps.{mapped-jet}
 use Rattle.cycle.proofs.StepsAgree.{requested-agrees}
-
--- a jet of one of the lowest n masks is mapped
-mapped-jet : (n i j : ℕ) (masks : List ℕ) → i < n → inMask masks i j → bit j (mapped n masks) ≡ true
-unfolding mapped
-mapped-jet zero i j masks l h = absurd (not-suc-le-zero l)
-mapped-jet (suc n) i j masks l h =
-    let lower : Bool = bit j (mapped n masks) in
-    let this : Bool = bit j (getD masks n 0) in
-    bit-or j (mapped n masks) (getD masks n 0)
-    ∙ ⊎-elim (λ (e : i ≡ n). or-right lower this (ap (λ (k : ℕ). bit j (getD masks k 0)) (sym e) ∙ h))
-    (λ (b : i < n). or-left lower this (mapped-jet n i j masks b h)) (eq-or-lt-of-le (le-of-suc-le-suc l))
 
 -- the leak word
 leak-agrees : (t : Temperatures) (j : ℕ) → j < jetCount → bit j (words.leakWord t) ≡ words.jetLeaks (t .words) j
@@ -53,7 +39,7 @@ asking m masks x leaking s = without (bitAnd (s .on .recheck) (badOf m masks x l
 module _ (m i j : ℕ) (masks : List ℕ) (below : i < m) (stands : inMask masks i j) where
   -- a word cut down to mapped jets has the jet's bit still
   pub heard : (w : ℕ) → bit j (bitAnd (mapped m masks) w) ≡ bit j w
-  heard w = bit-and j (mapped m masks) w ∙ ap (λ (b : Bool). b && bit j w) (mapped-jet m i j masks below stands)
+  heard w = bit-and j (mapped m masks) w ∙ ap (λ (b : Bool). b && bit j w) (mapped-jet masks j m i below stands)
 
   -- step 5
   pub requests-heard : (q : Requests) (s : StringState)

@@ -12,3 +12,4 @@ pub mod Hall
 pub mod Views
 pub mod Proper
 pub mod Close
+pub mod Runs

@@ -17,6 +17,22 @@ use Rattle.cycle.specs.declared.hall.Hall.{Hall}
 abbrev pub inMask : List ℕ → ℕ → ℕ → Type 0
 inMask masks i j = bit j (getD masks i 0) ≡ true
 
+-- a map of words, as an array of u32 masks is
+abbrev pub FitMap : List Masks → Type 0
+FitMap masks = (s i : ℕ) → s < stringCount → i < manifoldCount → getD (masksOf masks s) i 0 < 2 ^ wordBits
+
+-- "two masks of one string share a bit": jet `jet` stands in two masks of string `string`
+pub record TwoMasks (masks : List Masks) : Type 0 where
+  pub string : ℕ
+  pub one : ℕ
+  pub other : ℕ
+  pub jet : ℕ
+  pub inHall : string < stringCount
+  pub apart : one < other
+  pub inString : other < manifoldCount
+  pub inOne : inMask (masksOf masks string) one jet
+  pub inOther : inMask (masksOf masks string) other jet
+
 -- one string's masks are words, and no jet stands in two of them
 pub record Disjoint (m : ℕ) (masks : List ℕ) : Type 0 where
   pub fits : (i : ℕ) → i < m → getD masks i 0 < 2 ^ wordBits
