@@ -4,10 +4,11 @@ use mathlib.Core.Path.{_≡_, refl, ap, ap₂, _∙_}
 use mathlib.Core.Bool.{Bool, true, false, cond, _&&_, _||_}
 use mathlib.Core.List.{List}
 use Prim.Native.Nat.{ℕ, _<_}
-use lib.Bits.{bitAnd}
+use native.Mathlib.Nat.{lt-of-le-of-lt}
+use lib.Bits.{bitAnd, and-le-l}
 use lib.ListN.{getD}
-use Rattle.bits.specs.Bit.{wordBits, bit, meets, any}
-use Rattle.bits.proofs.Bits.{bit-or}
+use Rattle.bits.specs.Bit.{wordBits, bit, without, any}
+use Rattle.bits.proofs.Bits.{bit-and, bit-or}
 use Rattle.bits.proofs.Words.{pack-at, meets-is, any-same}
 use Rattle.cycle.specs.Size.{jetCount}
 use Rattle.cycle.specs.Map.{mapped}
@@ -25,7 +26,7 @@ use Rattle.cycle.proofs.ProperKept.{recovered-proper, gapped-proper, of
 use Rattle.cycle.proofs.StepsAgree.{recovered-agrees, gapped-agrees, off-failure-agrees, rechecked-agrees}
 use Rattle.cycle.proofs.StepsAgree.{on-failure-agrees, kept-agrees}
 use Rattle.cycle.proofs.ManifoldsAgree.{manifolds-agree}
-use Rattle.cycle.proofs.RecordsAgree.{afterRequests, badOf, asking, heard, requests-heard, bad-agrees, asked}
+use Rattle.cycle.proofs.RecordsAgree.{afterRequests, badOf, heard, requests-heard, bad-agrees, asked}
 
 -- ---- the jet
 
@@ -74,23 +75,33 @@ pub major-steps-close : (m i : ℕ) (masks : List ℕ) (x : Sample) (q : Request
     (jets.requested (bit j (q .inhibit)) (bit j (q .reenable)) (jetOf i j s))))
 unfolding words.majorSteps words.kept words.onFailure words.rechecked words.requested words.closeBits
 major-steps-close m i masks x q t n path s d below p =
-    let w : ℕ = asking m masks x (words.leakWord t) (afterRequests m masks q s) in
-    let mask : ℕ = getD masks i 0 in
-    bit-or i (s .close) (words.closeBits m masks w)
+    bit-or i (s .close) (words.closeBits m masks recheck again)
     ∙ ap (λ (b : Bool). bit i (s .close) || b)
-    (pack-at m (λ k. meets (getD masks k 0) w) i below
-    ∙ meets-is wordBits mask w (d .fits i below)
-    ∙ any-same jetCount (λ j. bit j mask && bit j w) (λ j. bit j mask && asks j) (λ j l. by j l (bit j mask) refl))
+    (pack-at m (λ k. words.asksClose (getD masks k 0) recheck again) i below
+    ∙ meets-is wordBits (bitAnd mask recheck) again (lt-of-le-of-lt (and-le-l mask recheck) (d .fits i below))
+    ∙ any-same jetCount (λ j. bit j (bitAnd mask recheck) && bit j again) (λ j. bit j mask && asks j)
+    (λ j l. ap (λ (b : Bool). b && bit j again) (bit-and j mask recheck) ∙ by j l (bit j mask) refl))
   where
+    mask : ℕ
+    mask = getD masks i 0
+
+    after : StringState
+    after = afterRequests m masks q s
+
+    recheck : ℕ
+    recheck = after .on .recheck
+
+    again : ℕ
+    again = without (badOf m masks x (words.leakWord t)) (after .over .reenable)
+
     asks : ℕ → Bool
     asks j =
         jets.asks (jets.isBad (jetSays n path i j x q t))
         (jets.requested (bit j (q .inhibit)) (bit j (q .reenable)) (jetOf i j s))
 
-    by : (j : ℕ) → j < jetCount → (b : Bool) → bit j (getD masks i 0) ≡ b
-        → (bit j (getD masks i 0) && bit j (asking m masks x (words.leakWord t) (afterRequests m masks q s)))
-        ≡ (bit j (getD masks i 0) && asks j)
-    by j l true e = ap (λ (b : Bool). bit j (getD masks i 0) && b) (asked m i j masks below e x q t n path l s)
+    by : (j : ℕ) → j < jetCount → (b : Bool) → bit j mask ≡ b
+        → ((bit j mask && bit j recheck) && bit j again) ≡ (bit j mask && asks j)
+    by j l true e = rw e (asked m i j masks below e x q t n path l s)
     by j l false e = rw e
 
 recovered-close : (s : StringState) → (words.recovered s) .close ≡ s .close

@@ -24,7 +24,7 @@ use Rattle.cycle.specs.declared.values.Temperatures.{Temperatures}
 use Rattle.cycle.specs.declared.values.Minor.{Minor}
 use Rattle.cycle.specs.declared.values.Major.{Major}
 use Rattle.cycle.specs.declared.hall.Hall.{Hall}
-use Rattle.cycle.proofs.Numbers.{Follows}
+use Rattle.cycle.proofs.Judgements.{Follows}
 use Rattle.cycle.proofs.Maps.{in-word}
 use Rattle.cycle.proofs.StringCycles.{minorly, majorly, minor-cycle-agrees, major-cycle-agrees, minor-cycle-close, quiet-close, major-cycle-close}
 use Rattle.cycle.proofs.HallStrings.{minor-length, minor-at, major-at, weighed-at}

@@ -1,6 +1,9 @@
 pub mod Numbers
+pub mod Judgements
 pub mod Each
 pub mod Maps
+pub mod Leaks
+pub mod Balance
 pub mod SetsKept
 pub mod ProperKept
 pub mod StepsAgree

@@ -1,18 +1,14 @@
--- The verdict on a record, told by arithmetic on d, n and the kind: each answer exactly under its stated condition. Assumes nothing.
+-- The verdict on a record by its distance and the number that it leads to; and a missed major cycle. Assumes nothing.
 use mathlib.Core.Path.{_≡_, refl, sym, ap, _∙_}
 use mathlib.Core.Bool.{Bool, true, false, not}
 use mathlib.Core.Logic.{_↔_}
 use Prim.Native.Nat.{ℕ, _+_, _-_, _*_, _/_, _%_, _<_, _≤_}
-use native.Mathlib.Decide.{ℕ-discrete, decLt}
 use native.Mathlib.Omega.{arith}
 use lib.Dec.{eqb, ltb, ltb→lt, lt→ltb}
 use borrow.Author.Tests.{lt-ltb, le-ltb, eq-eqb, ne-eqb}
 use Rattle.bits.proofs.Yes.{T-of, of-T, not-both}
 use Rattle.cycle.specs.Size.{majorEvery, lastCount, wireSpan, staleFrom}
 use Rattle.cycle.specs.Numbers.{distance, isMajor, missedCycle, missedMajor, following, judgedAt, judged}
-use Rattle.cycle.specs.Answers.{isTaken}
-use Rattle.cycle.specs.declared.answer.Answer.{Answer}
-use Rattle.cycle.specs.declared.number.Next.{Next}
 use Rattle.cycle.specs.declared.number.Verdict.{Verdict}
 use Rattle.cycle.specs.declared.number.Verdict.the-variants.{Takes, Refuses}
 use Rattle.cycle.specs.declared.answer.Answer.the-variants.{Stale, Repeat, CountEnded, WrongKind}
@@ -61,102 +57,6 @@ module _ (n d : ℕ) (gap major : Bool) where
           ≡ Takes (record { n = n + d; gap = gap; missed = missedMajor n (n + d) })
       kind true = refl
       kind false = refl
-
--- ---- every record is judged in exactly one of these ways
-
-pub data Judgement (n wire : ℕ) (major : Bool) : Verdict → Type 0 where
-  repeats : distance n wire ≡ 0 → Judgement n wire major (Refuses Repeat)
-  stale : staleFrom ≤ distance n wire → Judgement n wire major (Refuses Stale)
-  ends : 0 < distance n wire → distance n wire < staleFrom → lastCount < n + distance n wire
-      → Judgement n wire major (Refuses CountEnded)
-  wrong : 0 < distance n wire → distance n wire < staleFrom → n + distance n wire ≤ lastCount
-      → isMajor (n + distance n wire) ≡ not major → Judgement n wire major (Refuses WrongKind)
-  follows : 0 < distance n wire → distance n wire < staleFrom → n + distance n wire ≤ lastCount
-      → isMajor (n + distance n wire) ≡ major
-      → Judgement n wire major
-      (Takes (record {
-        n = n + distance n wire;
-        gap = ltb 1 (distance n wire);
-        missed = missedMajor n (n + distance n wire);
-      }))
-
-module _ (n wire : ℕ) (major : Bool) where
-  pub judged-exactly : Judgement n wire major (judged n wire major)
-  judged-exactly = by-distance (ℕ-discrete d 0) (decLt d staleFrom)
-    where
-      d : ℕ
-      d = distance n wire
-
-      verdict : Verdict
-      verdict = judged n wire major
-
-      by-kind : 0 < d → d < staleFrom → n + d ≤ lastCount → (b : Bool) → isMajor (n + d) ≡ b → (k : Bool) → major ≡ k
-          → Judgement n wire major verdict
-      by-kind p q l true e true f =
-          rw (judged-follows n wire major p q, follows-right n d (ltb 1 d) major l (e ∙ sym f)) (follows p q l (e ∙ sym f))
-      by-kind p q l true e false f =
-          rw (judged-follows n wire major p q, follows-wrong n d (ltb 1 d) major l (e ∙ sym (ap not f))) (wrong p q l (e ∙ sym (ap not f)))
-      by-kind p q l false e true f =
-          rw (judged-follows n wire major p q, follows-wrong n d (ltb 1 d) major l (e ∙ sym (ap not f))) (wrong p q l (e ∙ sym (ap not f)))
-      by-kind p q l false e false f =
-          rw (judged-follows n wire major p q, follows-right n d (ltb 1 d) major l (e ∙ sym f)) (follows p q l (e ∙ sym f))
-
-      by-count : 0 < d → d < staleFrom → Dec (lastCount < n + d) → Judgement n wire major verdict
-      by-count p q (yes l) = rw (judged-follows n wire major p q, follows-ended n d (ltb 1 d) major l) (ends p q l)
-      by-count p q (no f) = by-kind p q (omega arith) (isMajor (n + d)) refl major refl
-
-      by-distance : Dec (d ≡ 0) → Dec (d < staleFrom) → Judgement n wire major verdict
-      by-distance (yes e) s = rw (judged-repeat n wire major e) (repeats e)
-      by-distance (no f) (yes l) = by-count (omega arith) l (decLt lastCount (n + d))
-      by-distance (no f) (no g) =
-          let h : staleFrom ≤ d = omega arith in
-          rw (judged-stale n wire major h) (stale h)
-
--- what a taken record leads to
-pub record Follows (n wire : ℕ) (major : Bool) (next : Next) : Type 0 where
-  pub number : next .n ≡ n + distance n wire
-  pub above : n < next .n
-  pub most : next .n ≤ lastCount
-  pub kind : isMajor (next .n) ≡ major
-  pub gap : next .gap ≡ missedCycle n (next .n)
-  pub missed : next .missed ≡ missedMajor n (next .n)
-
-pub takes-follows : (n wire : ℕ) (major : Bool) (next : Next) → judged n wire major ≡ Takes next → Follows n wire major next
-takes-follows n wire major next e = by (judged n wire major) (judged-exactly n wire major) e
-  where
-    gap-same : (k : ℕ) → 0 < k → ltb 1 k ≡ ltb (n + 1) (n + k)
-    gap-same k p = decided (decLt 1 k)
-      where
-        decided : Dec (1 < k) → ltb 1 k ≡ ltb (n + 1) (n + k)
-        decided (yes l) = lt-ltb 1 k l ∙ sym (lt-ltb (n + 1) (n + k) (omega arith))
-        decided (no f) = le-ltb 1 k (omega arith) ∙ sym (le-ltb (n + 1) (n + k) (omega arith))
-
-    by : (v : Verdict) → Judgement n wire major v → v ≡ Takes next → Follows n wire major next
-    by v (repeats a) q = let z : _≡_ {A = ℕ} 0 1 = cc in absurd (omega arith)
-    by v (stale a) q = let z : _≡_ {A = ℕ} 0 1 = cc in absurd (omega arith)
-    by v (ends a b c) q = let z : _≡_ {A = ℕ} 0 1 = cc in absurd (omega arith)
-    by v (wrong a b c k) q = let z : _≡_ {A = ℕ} 0 1 = cc in absurd (omega arith)
-    by v (follows a b c k) q =
-        let this : Next =
-        record { n = n + distance n wire; gap = ltb 1 (distance n wire); missed = missedMajor n (n + distance n wire) } in
-        let s : this ≡ next = cc in
-        let w : Follows n wire major this =
-        record { number = refl; above = omega arith; most = c; kind = k; gap = gap-same (distance n wire) a; missed = refl } in
-        rw s at w
-
--- a refusal is one of the table's
-pub refuses-untaken : (n wire : ℕ) (major : Bool) (a : Answer) → judged n wire major ≡ Refuses a → isTaken a ≡ false
-refuses-untaken n wire major a e = by (judged n wire major) (judged-exactly n wire major) e
-  where
-    other : (b : Answer) → isTaken b ≡ false → _≡_ {A = Verdict} (Refuses b) (Refuses a) → isTaken a ≡ false
-    other b f q = let s : b ≡ a = cc in rw s at f
-
-    by : (v : Verdict) → Judgement n wire major v → v ≡ Refuses a → isTaken a ≡ false
-    by v (repeats x) q = other Repeat refl q
-    by v (stale x) q = other Stale refl q
-    by v (ends x y z) q = other CountEnded refl q
-    by v (wrong x y z k) q = other WrongKind refl q
-    by v (follows x y z k) q = let o : _≡_ {A = ℕ} 0 1 = cc in absurd (omega arith)
 
 -- ---- a missed major cycle is exactly a multiple of 25 strictly between the old number and the new
 

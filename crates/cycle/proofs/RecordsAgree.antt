@@ -1,7 +1,7 @@
 -- What a record says of jet j on manifold i is what the packed words of the record say at bit j: the mapped jets, the requests carried
 -- out, the bad jets, and those that ask for their manifold's close bit. Assumes nothing.
-use mathlib.Core.Path.{_≡_, ap, ap₂, _∙_}
-use mathlib.Core.Bool.{Bool, true, not, _&&_, _||_, and-comm}
+use mathlib.Core.Path.{_≡_, sym, ap, ap₂, _∙_}
+use mathlib.Core.Bool.{Bool, true, not, _&&_, _||_, and-comm, and-assoc}
 use mathlib.Core.List.{List}
 use Prim.Native.Nat.{ℕ, _<_}
 use lib.Bits.{bitAnd, bitOr}
@@ -26,15 +26,12 @@ leak-agrees : (t : Temperatures) (j : ℕ) → j < jetCount → bit j (words.lea
 unfolding words.leakWord
 leak-agrees t j = pack-at jetCount (words.jetLeaks (t .words)) j
 
--- the words that steps 5 and 6 go by: the string after its requests, the bad jets, those that ask for their manifold's close bit
+-- the words that steps 5 and 6 go by: the string after its requests, and the bad jets
 abbrev pub afterRequests : ℕ → List ℕ → Requests → StringState → StringState
 afterRequests m masks q s = words.requested (bitAnd (mapped m masks) (q .inhibit)) (bitAnd (mapped m masks) (q .reenable)) s
 
 abbrev pub badOf : ℕ → List ℕ → Sample → ℕ → ℕ
 badOf m masks x leaking = words.badJets (mapped m masks) (x .commanded) (x .driver) leaking
-
-abbrev pub asking : ℕ → List ℕ → Sample → ℕ → StringState → ℕ
-asking m masks x leaking s = without (bitAnd (s .on .recheck) (badOf m masks x leaking)) (s .over .reenable)
 
 module _ (m i j : ℕ) (masks : List ℕ) (below : i < m) (stands : inMask masks i j) where
   -- a word cut down to mapped jets has the jet's bit still
@@ -62,13 +59,15 @@ module _ (m i j : ℕ) (masks : List ℕ) (below : i < m) (stands : inMask masks
         ∙ ap (λ (b : Bool). b && not (bit j (x .commanded))) (heard shows ∙ e)
         ∙ and-comm acts (not (bit j (x .commanded)))
 
-    -- the jet asks for its manifold's close bit exactly where its bit is in the word of those that do
+    -- the jet asks for its manifold's close bit exactly where it is in the recheck word and bad again
     pub asked : (s : StringState)
-        → bit j (asking m masks x (words.leakWord t) (afterRequests m masks q s))
+        → (bit j ((afterRequests m masks q s) .on .recheck)
+        && bit j (without (badOf m masks x (words.leakWord t)) ((afterRequests m masks q s) .over .reenable)))
         ≡ jets.asks (jets.isBad (jetSays n path i j x q t))
         (jets.requested (bit j (q .inhibit)) (bit j (q .reenable)) (jetOf i j s))
     asked s =
         let r : StringState = afterRequests m masks q s in
         let bad : ℕ = badOf m masks x (words.leakWord t) in
-        let e : bit j (asking m masks x (words.leakWord t) r) ≡ jets.asks (bit j bad) (jetOf i j r) = simp (bit-and, bit-without) in
-        e ∙ ap₂ jets.asks bad-agrees (requests-heard q s)
+        ap (λ (b : Bool). bit j (r .on .recheck) && b) (bit-without j bad (r .over .reenable))
+        ∙ sym (and-assoc (bit j (r .on .recheck)) (bit j bad) (not (bit j (r .over .reenable))))
+        ∙ ap₂ jets.asks bad-agrees (requests-heard q s)

@@ -32,7 +32,7 @@ use Rattle.cycle.specs.declared.number.Verdict.{Verdict}
 use Rattle.cycle.specs.declared.number.Verdict.the-variants.{Takes, Refuses}
 use Rattle.cycle.specs.declared.hall.Hall.{Hall}
 use Rattle.cycle.specs.declared.hall.Stepped.{Stepped}
-use Rattle.cycle.proofs.Numbers.{Follows, takes-follows, refuses-untaken}
+use Rattle.cycle.proofs.Judgements.{Follows, takes-follows, refuses-untaken}
 use Rattle.cycle.proofs.HallStrings.{fresh-string, fresh-proper, taken-proper}
 use Rattle.cycle.proofs.HallAgrees.{jet-after, close-after, number-after, map-after, bank-after}
 

@@ -10,7 +10,7 @@ use Rattle.cycle.specs.declared.number.Verdict.{Verdict}
 use Rattle.cycle.specs.declared.number.Verdict.the-variants.{Takes, Refuses}
 
 -- "d is the wire cycle less the lowest 16 bits of n, modulo 65,536"
-unfoldable pub distance : ℕ → ℕ → ℕ
+abbrev pub distance : ℕ → ℕ → ℕ
 distance n wire = (wire + (wireSpan - n % wireSpan)) % wireSpan
 
 -- "a taken record whose new n is a multiple of 25 is major"

@@ -150,14 +150,16 @@ leakWord t = pack jetCount (jetLeaks (t .words))
 unfoldable pub badJets : ℕ → ℕ → ℕ → ℕ → ℕ
 badJets jets commanded driver leaking = without (bitAnd jets (bitOr driver leaking)) commanded
 
--- 6. of m manifolds, those with a jet of `asking`
-unfoldable pub closeBits : ℕ → List ℕ → ℕ → ℕ
-closeBits m masks asking = pack m (λ i. meets (getD masks i 0) asking)
+-- 6. a manifold gets its close bit if some jet of its mask is in the recheck word and bad again, not re-enabled
+abbrev pub asksClose : ℕ → ℕ → ℕ → Bool
+asksClose mask recheck again = meets (bitAnd mask recheck) again
 
--- 6. Recheck
+unfoldable pub closeBits : ℕ → List ℕ → ℕ → ℕ → ℕ
+closeBits m masks recheck again = pack m (λ i. asksClose (getD masks i 0) recheck again)
+
+-- 6. Recheck: the close bit "stays"
 unfoldable pub rechecked : ℕ → List ℕ → ℕ → StringState → StringState
-rechecked m masks bad s =
-    withClose (bitOr (s .close) (closeBits m masks (without (bitAnd (s .on .recheck) bad) (s .over .reenable)))) s
+rechecked m masks bad s = withClose (bitOr (s .close) (closeBits m masks (s .on .recheck) (without bad (s .over .reenable)))) s
 
 -- 7. On failure
 abbrev pub onShifted : ℕ → StringState → OnSlots

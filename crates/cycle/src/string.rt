@@ -2,7 +2,7 @@
 ghost use mathlib.Core.Path.{_≡_};
 ghost use mathlib.Core.Bool.{_&&_};
 ghost use Rattle.cycle.specs.Size.{manifoldCount};
-ghost use Rattle.cycle.specs.Words.{fresh, pathLost, recovered, gapped, offFailure, manifold, manifolds, requested, closeBits, rechecked, onFailure, kept, badJets, minorCycle, majorCycle};
+ghost use Rattle.cycle.specs.Words.{fresh, pathLost, recovered, gapped, offFailure, manifold, manifolds, requested, asksClose, closeBits, rechecked, onFailure, kept, badJets, minorCycle, majorCycle};
 use crate::leak::leak_word;
 use crate::map::Masks;
 use crate::size::ALL_OPEN;
@@ -84,15 +84,22 @@ impl AtManifold {
     }
 }
 
-// For each manifold, whether it has a jet of `asking`.
-pub fn close_bits(masks: Masks, asking: u32) -> u32
-    ensures { λ r. ⌜ r ≡ closeBits manifoldCount (masks .words) asking ⌝ }
+// Step 6: does a manifold with the jets of `mask` get its close bit: is one and the same jet of it in the recheck word and bad again?
+pub fn asks_close(mask: u32, recheck: u32, bad: u32) -> bool
+    ensures { λ r. ⌜ r ≡ asksClose mask recheck bad ⌝ }
+{
+    meets(mask & recheck, bad)
+}
+
+// The manifolds that get their close bits.
+pub fn close_bits(masks: Masks, recheck: u32, bad: u32) -> u32
+    ensures { λ r. ⌜ r ≡ closeBits manifoldCount (masks .words) recheck bad ⌝ }
 {
     let words = masks.words;
     let mut w: u32 = 0;
     let mut i: usize = 0;
     while i < MANIFOLDS {
-        let asks = meets(words[i], asking);
+        let asks = asks_close(words[i], recheck, bad);
         w = with_bit(w, i, asks);
         i += 1;
     }
@@ -177,20 +184,20 @@ impl StringState {
         ensures { λ r. ⌜ r ≡ gapped gap missed self ⌝ }
     {
         if gap {
-            let off = OffSlots {
+            let no_off = OffSlots {
                 newest: 0,
                 older: 0,
                 oldest: 0,
             };
-            self.off = off;
+            self.off = no_off;
         }
         if missed {
-            let on = OnSlots {
+            let no_on = OnSlots {
                 newest: 0,
                 older: 0,
                 recheck: 0,
             };
-            self.on = on;
+            self.on = no_on;
         }
         self
     }
@@ -273,8 +280,8 @@ impl StringState {
     pub fn rechecked(mut self, masks: Masks, bad: u32) -> StringState
         ensures { λ r. ⌜ r ≡ rechecked manifoldCount (masks .words) bad self ⌝ }
     {
-        let asking = without(self.on.recheck & bad, self.over.reenable);
-        self.close = self.close | close_bits(masks, asking);
+        let again = without(bad, self.over.reenable);
+        self.close = self.close | close_bits(masks, self.on.recheck, again);
         self
     }
 

@@ -1,6 +1,5 @@
 -- `cycle::string::close_bits` meets its contract. Assumes nothing.
 use lib.ListN.{getD}
-use Rattle.bits.specs.Bit.{meets}
 use Rattle.bits.proofs.Words.{pack-next}
 use borrow.Author.Needs.{needs}
 use mathlib.Core.Path.{_≡_, refl, ap, sym, _∙_}
@@ -10,28 +9,28 @@ use native.Mathlib.Numerals.{add-one}
 use Rattle.bits.specs.Bit.{pack}
 use Rattle.bits.proofs.Words.{with-is-plus}
 use Rattle.cycle.specs.Size.{manifoldCount}
-use Rattle.cycle.specs.Words.{closeBits}
+use Rattle.cycle.specs.Words.{asksClose, closeBits}
 use Rattle.cycle.proofs.string.close_bits.Statement.{statement}
 use Rattle.cycle.proofs.string.close_bits.Tie as tie
 
 abbrev Inv-loop : tie.InvT-loop
-Inv-loop asking words w₀ i₀ w i = (i ≤ manifoldCount) × (w ≡ closeBits i words asking)
+Inv-loop recheck bad words w₀ i₀ w i = (i ≤ manifoldCount) × (w ≡ closeBits i words recheck bad)
 
 abbrev μ-loop : tie.MeasureT-loop
-μ-loop asking words w₀ i₀ w i = manifoldCount - i
+μ-loop recheck bad words w₀ i₀ w i = manifoldCount - i
 
 loop-holds : tie.Need-loop-holds Inv-loop μ-loop
 unfolding closeBits pack
 loop-holds c = search needs
 
-mul-meets : tie.Need-mul-meets Inv-loop μ-loop
-mul-meets c = search needs
+mul-asks-close : tie.Need-mul-asks-close Inv-loop μ-loop
+mul-asks-close c = search needs
 
-array-read-meets : tie.Need-array-read-meets Inv-loop μ-loop
-array-read-meets c = search needs
+array-read-asks-close : tie.Need-array-read-asks-close Inv-loop μ-loop
+array-read-asks-close c = search needs
 
-meets-requires : tie.Need-meets-requires Inv-loop μ-loop
-meets-requires c κs = search needs
+asks-close-requires : tie.Need-asks-close-requires Inv-loop μ-loop
+asks-close-requires c κs = search needs
 
 with-bit-requires : tie.Need-with-bit-requires Inv-loop μ-loop
 with-bit-requires c κs = search needs
@@ -44,14 +43,15 @@ loop-less c = search needs
 
 loop-again : tie.Need-loop-again Inv-loop μ-loop
 unfolding closeBits
-loop-again c = (
-  search needs,
-  rw add-one
-      (c .with-bit .ensures
-      ∙ pack-next (c .before .before .before .loop .i) (c .before .before .before .loop .w)
-      (λ k. meets (getD (c .before .before .before .before .before .args .masks .words) k 0) (c .before .before .before .before .before .args .asking))
-      (c .before .meets .result) (omega arith) (c .before .before .before .loop .inv .1) (c .before .meets .ensures)),
-)
+loop-again c =
+    let a = c .before .before .before .before .before .args in (
+      search needs,
+      rw add-one
+          (c .with-bit .ensures
+          ∙ pack-next (c .before .before .before .loop .i) (c .before .before .before .loop .w)
+          (λ k. asksClose (getD (a .masks .words) k 0) (a .recheck) (a .bad))
+          (c .before .asks-close .result) (omega arith) (c .before .before .before .loop .inv .1) (c .before .asks-close .ensures)),
+    )
 
 returns : tie.Need-returns Inv-loop μ-loop
 returns c = let e : c .before .loop .i ≡ manifoldCount = omega arith in cc
@@ -63,9 +63,9 @@ close-bits-spec =
     Inv-loop
     μ-loop
     loop-holds
-    mul-meets
-    array-read-meets
-    meets-requires
+    mul-asks-close
+    array-read-asks-close
+    asks-close-requires
     with-bit-requires
     add-i
     loop-less

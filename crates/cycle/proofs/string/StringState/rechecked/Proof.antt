@@ -17,8 +17,10 @@ close-bits-requires c κs = search needs
 returns : tie.Need-returns
 unfolding rechecked
 returns c =
-    let a = c .before .before .before .before .args in
-    ap (λ (x : ℕ). withClose (bitOr (a .self .close) x) (a .self)) (c .before .close-bits .ensures ∙ ap (closeBits manifoldCount (a .masks .words)) (c .before .before .without .ensures))
+    let a = c .before .before .before .args in
+    ap (λ (x : ℕ). withClose (bitOr (a .self .close) x) (a .self))
+    (c .before .close-bits .ensures
+    ∙ ap (closeBits manifoldCount (a .masks .words) (a .self .on .recheck)) (c .before .before .without .ensures))
 
 pub rechecked-spec : {M : Type 1} → statement M
 rechecked-spec = tie.close (tie.spec without-requires close-bits-requires returns)
