@@ -65,6 +65,10 @@ pub not-true : (b : Bool) → not b ≡ true → b ≡ false
 not-true true e = sym e
 not-true false e = refl
 
+pub not-no : (b : Bool) → not b ≡ false → b ≡ true
+not-no true e = refl
+not-no false e = sym e
+
 pub not-false : (b : Bool) → b ≡ false → not b ≡ true
 not-false b e = rw e
 

@@ -77,22 +77,27 @@ majorStrings n masks r strings =
     (getD (r .temperatures) s noTemperatures) (getD (r .requests) s noRequests) x)
     pastString strings
 
--- the next hall, where the record is taken
-unfoldable pub taken : Record → Next → Hall → Hall
-taken (minor r) next h = record {
+-- the next hall, where the record is taken: steps 1 to 4, and the new n
+abbrev pub minorTaken : Minor → Next → Hall → Hall
+minorTaken r next h = record {
   n = next .n;
   masks = h .masks;
   strings = minorStrings stringCount (h .masks) r (next .gap) (next .missed) (h .strings);
   banks = h .banks;
 }
-taken (major r) next h = record {
-  n = next .n;
+
+-- "In a major cycle also": steps 5 to 8, and the banks
+abbrev pub majorTaken : Major → Hall → Hall
+majorTaken r h = record {
+  n = h .n;
   masks = h .masks;
-  strings =
-      majorStrings stringCount (h .masks) r
-      (minorStrings stringCount (h .masks) (r .minor) (next .gap) (next .missed) (h .strings));
+  strings = majorStrings stringCount (h .masks) r (h .strings);
   banks = weighedAll moduleCount (r .quantities) (h .banks);
 }
+
+unfoldable pub taken : Record → Next → Hall → Hall
+taken (minor r) next h = minorTaken r next h
+taken (major r) next h = majorTaken r (minorTaken (r .minor) next h)
 
 -- by the verdict: "stepped", or "as before"
 abbrev pub steppedBy : Verdict → Record → Hall → Stepped

@@ -2,7 +2,7 @@
 ghost use mathlib.Core.Path.{_≡_};
 ghost use mathlib.Core.Bool.{true, false};
 ghost use Rattle.cycle.specs.Size.{stringCount};
-ghost use Rattle.cycle.specs.Hall.{freshHall, started, minorStrings, majorStrings, stepped};
+ghost use Rattle.cycle.specs.Hall.{freshHall, started, minorStrings, majorStrings, minorTaken, majorTaken, stepped};
 ghost use Rattle.cycle.specs.Records.{Record};
 use crate::answer::Answer;
 use crate::banks::Bank;
@@ -97,28 +97,43 @@ impl Hall {
         }
     }
 
+    // Steps 1 to 4 of a taken record, which leads to `next`.
+    pub fn minor_taken(mut self, r: Minor, next: Next) -> Hall
+        ensures { λ x. ⌜ x ≡ minorTaken r next self ⌝ }
+    {
+        let masks = self.masks;
+        let before = self.strings;
+        let strings = minor_strings(before, masks, r, next.gap, next.missed);
+        self.n = next.n;
+        self.strings = strings;
+        self
+    }
+
+    // Steps 5 to 8 of a taken major record, and the banks.
+    pub fn major_taken(mut self, r: Major) -> Hall
+        ensures { λ x. ⌜ x ≡ majorTaken r self ⌝ }
+    {
+        let masks = self.masks;
+        let before = self.strings;
+        let held = self.banks;
+        let quantities = r.quantities;
+        let strings = major_strings(before, masks, r);
+        let banks = weighed_all(held, quantities);
+        self.strings = strings;
+        self.banks = banks;
+        self
+    }
+
     // A minor record's values.
     pub fn minor(self, r: Minor) -> Stepped
         ensures { λ x. ⌜ x ≡ stepped (Record.minor r) self ⌝ }
     {
         let v = judged(self.n, r.wire, false);
         match v {
-            Verdict::Takes(next) => {
-                let masks = self.masks;
-                let before = self.strings;
-                let banks = self.banks;
-                let strings = minor_strings(before, masks, r, next.gap, next.missed);
-                let hall = Hall {
-                    n: next.n,
-                    masks: masks,
-                    strings: strings,
-                    banks: banks,
-                };
-                Stepped {
-                    answer: Answer::Taken,
-                    hall: hall,
-                }
-            }
+            Verdict::Takes(next) => Stepped {
+                answer: Answer::Taken,
+                hall: self.minor_taken(r, next),
+            },
             Verdict::Refuses(answer) => Stepped {
                 answer: answer,
                 hall: self,
@@ -133,25 +148,10 @@ impl Hall {
         let minor = r.minor;
         let v = judged(self.n, minor.wire, true);
         match v {
-            Verdict::Takes(next) => {
-                let masks = self.masks;
-                let before = self.strings;
-                let held = self.banks;
-                let quantities = r.quantities;
-                let halfway = minor_strings(before, masks, minor, next.gap, next.missed);
-                let strings = major_strings(halfway, masks, r);
-                let banks = weighed_all(held, quantities);
-                let hall = Hall {
-                    n: next.n,
-                    masks: masks,
-                    strings: strings,
-                    banks: banks,
-                };
-                Stepped {
-                    answer: Answer::Taken,
-                    hall: hall,
-                }
-            }
+            Verdict::Takes(next) => Stepped {
+                answer: Answer::Taken,
+                hall: self.minor_taken(minor, next).major_taken(r),
+            },
             Verdict::Refuses(answer) => Stepped {
                 answer: answer,
                 hall: self,

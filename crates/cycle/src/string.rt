@@ -65,22 +65,17 @@ impl AtManifold {
         ensures { λ r. ⌜ r ≡ manifold mask was now self ⌝ }
     {
         if was {
-            if now {
-                self
-            } else {
+            if !now {
                 self.saved = without(mask, self.fail);
                 self.fail = self.fail | mask;
                 self.reenable = without(self.reenable, mask);
-                self
             }
         } else {
             if now {
                 self.fail = without(self.fail, self.saved);
-                self
-            } else {
-                self
             }
         }
+        self
     }
 }
 
@@ -173,10 +168,8 @@ impl StringState {
             self.off = off;
             self.on = on;
             self.lost = false;
-            self
-        } else {
-            self
         }
+        self
     }
 
     // Step 2. gap: a cycle was missed; missed: a major one.

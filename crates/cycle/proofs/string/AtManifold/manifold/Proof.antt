@@ -1,4 +1,5 @@
 -- `cycle::string::AtManifold::manifold` meets its contract. Assumes nothing.
+use Rattle.bits.proofs.Yes.{not-true, not-no}
 use Rattle.cycle.specs.Words.{manifold}
 use borrow.Author.Needs.{needs}
 use Rattle.cycle.proofs.string.AtManifold.manifold.Statement.{statement}
@@ -15,11 +16,11 @@ without-requires-3 c κs = search needs
 
 returns : tie.Need-returns
 unfolding manifold
-returns c = rw (c .before .if1 .taken, c .if2 .taken)
+returns c = rw (c .before .before .before .before .if1 .taken, not-true (c .before .before .before .before .before .args .now) (c .before .before .before .if2 .taken)) (cc)
 
 returns-2 : tie.Need-returns-2
 unfolding manifold
-returns-2 c = rw (c .before .before .before .before .if1 .taken, c .before .before .before .if2 .left) (cc)
+returns-2 c = rw (c .before .if1 .taken, not-no (c .before .before .args .now) (c .if2 .left))
 
 returns-3 : tie.Need-returns-3
 unfolding manifold
