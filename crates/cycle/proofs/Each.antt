@@ -39,3 +39,12 @@ module _ {A : Type 0} (f : ℕ → A → A) (d : A) (l : List A) where
       (λ (b : i < n).
       getD-set-other (each n f d l) n i (f n (getD (each n f d l) n d)) d (λ e. omega arith) ∙ each-at n i b (omega arith))
       (eq-or-lt-of-le (le-of-suc-le-suc h))
+
+-- two rules that agree below n do the same
+pub each-same : {A : Type 0} (f g : ℕ → A → A) (d : A) (l : List A) (n : ℕ) → ((i : ℕ) (x : A) → i < n → f i x ≡ g i x)
+    → each n f d l ≡ each n g d l
+unfolding each
+each-same f g d l zero e = refl
+each-same f g d l (suc n) e =
+    let h : each n f d l ≡ each n g d l = each-same f g d l n (λ i x b. e i x (omega arith)) in
+    rw h (ap (λ x. set (each n g d l) n x) (e n (getD (each n g d l) n d) (omega arith)))

@@ -1,0 +1,45 @@
+-- `feed::call::Monitor::start_from` meets its contract. Assumes nothing.
+use mathlib.Core.Path.{ap, _∙_}
+use mathlib.Core.List.{[]}
+use lib.ListN.{replicate}
+use Rattle.feed.specs.Call.{holding, startedOver}
+use Rattle.feed.specs.declared.call.Outcome.{Outcome}
+use Rattle.cycle.specs.Size.{stringCount}
+use Rattle.cycle.specs.Hall.{freshHall}
+use Rattle.cycle.specs.declared.answer.Answer.the-variants.{MapRefused}
+use Rattle.cycle.specs.declared.map.Masks.{Masks}
+use Rattle.cycle.specs.declared.hall.Hall.{Hall}
+use borrow.Author.Tests.{eq-eqb, ne-eqb}
+use Rattle.feed.specs.Masks.{startedFrom}
+use borrow.Author.Needs.{needs}
+use Rattle.feed.proofs.call.Monitor.start_from.Statement.{statement}
+use Rattle.feed.proofs.call.Monitor.start_from.Tie as tie
+
+-- short masks are refused
+abbrev refusedOf : Hall → Outcome
+refusedOf h = record { answer = MapRefused; used = 0; monitor = holding h [] }
+
+masks-of-requires : tie.Need-masks-of-requires
+masks-of-requires c κs = search needs
+
+start-requires : tie.Need-start-requires
+start-requires c κs = search needs
+
+none-requires : tie.Need-none-requires
+none-requires c κs = search needs
+
+fresh-requires : tie.Need-fresh-requires
+fresh-requires c κs = search needs
+
+returns : tie.Need-returns
+unfolding startedFrom
+returns c = rw (eq-eqb _ _ (c .before .before .if1 .taken)) (c .start .ensures ∙ ap startedOver (c .before .masks-of .ensures))
+
+returns-2 : tie.Need-returns-2
+unfolding startedFrom
+returns-2 c = rw (ne-eqb _ _ (c .before .before .if1 .left)) (ap refusedOf (c .fresh .ensures ∙ ap (λ (x : Masks). freshHall (replicate stringCount x)) (c .before .none .ensures)))
+
+pub start-from-spec : {M : Type 1} → statement M
+start-from-spec =
+    tie.close
+    (tie.spec masks-of-requires start-requires none-requires fresh-requires returns returns-2)

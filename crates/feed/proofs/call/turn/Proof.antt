@@ -1,0 +1,83 @@
+-- `feed::call::turn` meets its contract. Assumes nothing.
+use mathlib.Core.Path.{sym, _∙_}
+use mathlib.Core.List.{List}
+use Prim.Native.Nat.{ℕ, _≤_}
+use native.Mathlib.Omega.{arith}
+use lib.ListN.{length, take}
+use Rattle.feed.specs.Size.{mostHeld}
+use Rattle.feed.proofs.Lengths.{real-long}
+use Rattle.feed.proofs.Turning.{taken-short, length-none, length-real, found-fits, count-fits, held-fits, turn-none, turn-some}
+use borrow.Author.Needs.{needs}
+use Rattle.feed.proofs.call.turn.Statement.{statement}
+use Rattle.feed.proofs.call.turn.Tie as tie
+
+find-requires : tie.Need-find-requires
+find-requires c κs = search needs
+
+length-of-requires : tie.Need-length-of-requires
+length-of-requires c κs = search needs
+
+same-length : tie.Need-same-length
+same-length c = search needs
+
+returns : tie.Need-returns
+returns c =
+    let a = c .before .before .before .before .before .before .before .before .before .args in
+    let h : List ℕ = take (a .count) (a .b .now) in
+    let short : length h ≤ mostHeld = taken-short (a .count) (a .b .now) (c .before .before .before .before .before .before .before .before .before .pre .1 .0) in
+    let found = c .before .before .before .before .find .ensures in
+    turn-none (a .hall) h (a .piece .now) (a .out .now) (a .from) (c .before .before .before .before .find .result) (c .before .before .before .before .find .last .0) short (c .before .before .before .before .before .before .before .before .before .pre .1 .2) found
+    (length-none (c .before .before .before .before .find .result .kind) (sym (c .before .length-of .ensures) ∙ c .if1 .taken))
+
+step-found-requires : tie.Need-step-found-requires
+step-found-requires c κs =
+    let a = c .before .before .before .before .before .before .before .before .before .before .args in
+    let h : List ℕ = take (a .count) (a .b .now) in
+    let short : length h ≤ mostHeld = taken-short (a .count) (a .b .now) (c .before .before .before .before .before .before .before .before .before .before .pre .1 .0) in
+    let found = c .before .before .before .before .before .find .ensures in
+    let real = length-real (c .before .before .before .before .before .find .result .kind) (λ q. c .before .if1 .left (c .before .before .length-of .ensures ∙ q)) in
+    (omega (arith, real-long (c .before .before .before .before .before .find .result .kind) real), found-fits (a .hall) h (a .piece .now) (a .out .now) (a .from) (c .before .before .before .before .before .find .result) (c .before .before .before .before .before .find .last .0) short (c .before .before .before .before .before .before .before .before .before .before .pre .1 .2) found real)
+
+removed-requires : tie.Need-removed-requires
+removed-requires c κs =
+    let a = c .before .before .before .before .before .before .before .before .before .before .before .before .args in
+    let h : List ℕ = take (a .count) (a .b .now) in
+    let short : length h ≤ mostHeld = taken-short (a .count) (a .b .now) (c .before .before .before .before .before .before .before .before .before .before .before .before .pre .1 .0) in
+    let found = c .before .before .before .before .before .before .before .find .ensures in
+    let real = length-real (c .before .before .before .before .before .before .before .find .result .kind) (λ q. c .before .before .before .if1 .left (c .before .before .before .before .length-of .ensures ∙ q)) in
+    (count-fits (a .hall) h (a .piece .now) (a .out .now) (a .from) (c .before .before .before .before .before .before .before .find .result) (c .before .before .before .before .before .before .before .find .last .0) short (c .before .before .before .before .before .before .before .before .before .before .before .before .pre .1 .2) found real, held-fits (a .hall) h (a .piece .now) (a .out .now) (a .from) (c .before .before .before .before .before .before .before .find .result) (c .before .before .before .before .before .before .before .find .last .0) short (c .before .before .before .before .before .before .before .before .before .before .before .before .pre .1 .2) found real)
+
+write-report-requires : tie.Need-write-report-requires
+write-report-requires c κs = search needs
+
+same-length-2 : tie.Need-same-length-2
+same-length-2 c = search needs
+
+same-length-3 : tie.Need-same-length-3
+same-length-3 c = search needs
+
+returns-2 : tie.Need-returns-2
+returns-2 c =
+    let a = c .before .before .before .before .before .before .before .before .before .before .before .before .before .before .before .before .before .before .before .before .args in
+    let h : List ℕ = take (a .count) (a .b .now) in
+    let short : length h ≤ mostHeld = taken-short (a .count) (a .b .now) (c .before .before .before .before .before .before .before .before .before .before .before .before .before .before .before .before .before .before .before .before .pre .1 .0) in
+    let found = c .before .before .before .before .before .before .before .before .before .before .before .before .before .before .before .find .ensures in
+    let real = length-real (c .before .before .before .before .before .before .before .before .before .before .before .before .before .before .before .find .result .kind) (λ q. c .before .before .before .before .before .before .before .before .before .before .before .if1 .left (c .before .before .before .before .before .before .before .before .before .before .before .before .length-of .ensures ∙ q)) in
+    turn-some (a .hall) h (a .piece .now) (a .out .now) (a .from) (c .before .before .before .before .before .before .before .before .before .before .before .before .before .before .before .find .result) (c .before .before .before .before .before .before .before .before .before .before .before .before .before .before .before .find .last .0) short (c .before .before .before .before .before .before .before .before .before .before .before .before .before .before .before .before .before .before .before .before .pre .1 .2) found real
+    (c .before .before .before .before .before .before .before .before .before .step-found .result) (c .before .before .before .before .before .before .before .removed .result) (c .before .before .before .before .before .before .before .removed .last .0) (c .before .before .write-report .last .0)
+    (c .before .before .before .before .before .before .before .before .before .step-found .ensures) (c .before .before .before .before .before .before .before .removed .ensures .0) (c .before .before .before .before .before .before .before .removed .ensures .1) (c .before .before .write-report .ensures)
+
+pub turn-spec : {M : Type 1} → statement M
+turn-spec =
+    tie.close
+    (tie.spec
+    find-requires
+    length-of-requires
+    same-length
+    returns
+    step-found-requires
+    removed-requires
+    write-report-requires
+    same-length-2
+    same-length-3
+    returns-2)

@@ -1,0 +1,62 @@
+-- `feed::format::sum` meets its contract. The loop's invariant: after i bytes the sum is that of the first i. Assumes nothing.
+use Prim.Native.Nat.{_≤_, _-_}
+use mathlib.Core.Path.{_≡_, refl, ap, _∙_}
+use native.Mathlib.Omega.{arith}
+use borrow.Author.Needs.{needs}
+use lib.ListN.{length, take}
+use lib.Seq.{take-all}
+use Rattle.feed.specs.Format.{sumOf, total}
+use Rattle.feed.proofs.Sums.{sum-more}
+use Rattle.feed.proofs.format.sum.Statement.{statement}
+use Rattle.feed.proofs.format.sum.Tie as tie
+
+abbrev Inv-loop : tie.InvT-loop
+Inv-loop s t₀ i₀ t i = (i ≤ length s) × (t ≡ sumOf (take i s))
+
+abbrev μ-loop : tie.MeasureT-loop
+μ-loop s t₀ i₀ t i = length s - i
+
+loop-holds : tie.Need-loop-holds Inv-loop μ-loop
+unfolding sumOf total
+loop-holds c = (omega arith, refl)
+
+shared-slice-read-wide16 : tie.Need-shared-slice-read-wide16 Inv-loop μ-loop
+shared-slice-read-wide16 c = search needs
+
+wide16-requires : tie.Need-wide16-requires Inv-loop μ-loop
+wide16-requires c κs = search needs
+
+wrapping-add-u16-requires : tie.Need-wrapping-add-u16-requires Inv-loop μ-loop
+wrapping-add-u16-requires c κs = search needs
+
+add-i : tie.Need-add-i Inv-loop μ-loop
+add-i c = search needs
+
+loop-less : tie.Need-loop-less Inv-loop μ-loop
+loop-less c = search needs
+
+loop-again : tie.Need-loop-again Inv-loop μ-loop
+loop-again c =
+    let l = c .before .before .before .before in
+    let m = sum-more (l .before .before .args .s .now) (l .loop .i) (omega arith) in
+    (search needs, cc (m, c .before .wide16 .ensures .0, c .wrapping-add-u16 .ensures))
+
+returns : tie.Need-returns Inv-loop μ-loop
+returns c =
+    let s = c .before .before .before .args .s .now in
+    c .before .loop .inv .1 ∙ ap sumOf (take-all (c .before .loop .i) s (omega arith))
+
+pub sum-spec : {M : Type 1} → statement M
+sum-spec =
+    tie.close
+    (tie.spec
+    Inv-loop
+    μ-loop
+    loop-holds
+    shared-slice-read-wide16
+    wide16-requires
+    wrapping-add-u16-requires
+    add-i
+    loop-less
+    loop-again
+    returns)

@@ -1,0 +1,265 @@
+-- `feed::reader::fill` meets its contract. The loop's invariant: what the store holds, with the rest of the piece, is read as what was
+-- held at the start with the whole piece. The measure is what is left of the piece. Assumes nothing.
+use Prim.Native.Nat.{ℕ, _≤_, _<_, _-_, _+_}
+use mathlib.Core.Path.{_≡_, refl, sym, _∙_, ap}
+use mathlib.Core.List.{List}
+use mathlib.Core.Logic.{⊎-elim}
+use native.Mathlib.Omega.{arith}
+use borrow.Author.Needs.{needs}
+use lib.ListN.{length, drop, take, set, getD}
+use lib.Seq.{length-take-le}
+use Rattle.feed.specs.Size.{storeLength}
+use Rattle.feed.specs.Reader.{settle, store, reads}
+use Rattle.feed.specs.declared.format.Kind.the-variants.{NoKind}
+use Rattle.feed.proofs.Fronts.{settle-short}
+use Rattle.feed.proofs.Stores.{length-store}
+use Rattle.feed.proofs.Turns.{Turn, turn-long, turn-fits, turn-count, turn-at, turn-stay, turn-gone}
+use Rattle.feed.proofs.Turns.{turn-found, turn-end, turn-room, turn-more}
+use Rattle.feed.proofs.Copies.{calm-room, turn-copy, part-long}
+use Rattle.feed.proofs.reader.fill.Statement.{statement}
+use Rattle.feed.proofs.reader.fill.Tie as tie
+
+abbrev Inv-loop : tie.InvT-loop
+Inv-loop b₀ count piece from n₀ used₀ b n used = Turn (reads (take count b₀) (drop from piece)) piece b n used
+
+abbrev μ-loop : tie.MeasureT-loop
+μ-loop b₀ count piece from n₀ used₀ b n used = length piece - used
+
+loop-holds : tie.Need-loop-holds Inv-loop μ-loop
+loop-holds c =
+    let a = c .before .before .args in
+    let p = c .before .before .pre in
+    record {
+      held = take (a .count) (a .b .now);
+      long = length-take-le (a .count) (a .b .now) (omega arith);
+      fits = omega arith;
+      stored = p .1 .1;
+      within = p .1 .2;
+      same = refl;
+    }
+
+slice-reshare-prefix-find-front : tie.Need-slice-reshare-prefix-find-front Inv-loop μ-loop
+slice-reshare-prefix-find-front c = turn-fits _ _ _ _ _ (c .loop .inv)
+
+slice-aggregate-find-front : tie.Need-slice-aggregate-find-front Inv-loop μ-loop
+slice-aggregate-find-front c = turn-count _ _ _ _ _ (c .before .loop .inv)
+
+find-front-requires : tie.Need-find-front-requires Inv-loop μ-loop
+find-front-requires c κs = search needs
+
+slice-relend-prefix-shift : tie.Need-slice-relend-prefix-shift Inv-loop μ-loop
+slice-relend-prefix-shift c = turn-fits _ _ _ _ _ (c .before .before .before .loop .inv)
+
+slice-aggregate-shift : tie.Need-slice-aggregate-shift Inv-loop μ-loop
+slice-aggregate-shift c = turn-count _ _ _ _ _ (c .before .before .before .before .loop .inv)
+
+shift-requires : tie.Need-shift-requires Inv-loop μ-loop
+shift-requires c κs =
+    let t = c .before .before .before .before .loop .inv in
+    let k = turn-at _ _ _ _ _ t _ (c .before .before .find-front .ensures) in
+    omega (arith, turn-count _ _ _ _ _ t)
+
+sub-n : tie.Need-sub-n Inv-loop μ-loop
+sub-n c =
+    let d = c .before .before .before .before .before in
+    turn-at _ _ _ _ _ (d .before .before .loop .inv) _ (d .find-front .ensures)
+
+-- what this turn leaves of what was held
+abbrev left : tie.Joined1 Inv-loop μ-loop → List ℕ
+left c = settle (c .before .before .before .loop .inv .held)
+
+-- where the arms meet: the store holds that, from its front
+joined : (c : tie.Joined1 Inv-loop μ-loop) → (c .if1 .b ≡ store (left c)) × (c .if1 .n ≡ length (left c))
+joined c =
+    let t = c .before .before .before .loop .inv in
+    let f = c .before .find-front .ensures in
+    ⊎-elim
+    (λ w. let g = turn-gone _ _ _ _ _ t _ f (w .2 .last .0) (w .2 .ensures) in (w .5 ∙ g .0, w .6 ∙ g .1))
+    (λ w. let g = turn-stay _ _ _ _ _ t _ f (w .0 .left) in (w .1 ∙ g .0, w .2 ∙ g .1))
+    (c .if1 .came)
+
+-- the store stays as long as it is
+same : (c : tie.Joined1 Inv-loop μ-loop) → length (c .if1 .b) ≡ storeLength
+same c =
+    let t = c .before .before .before .loop .inv in
+    let j = joined c in
+    let k = settle-short (t .held) in
+    ap length (j .0) ∙ length-store (settle (t .held)) (omega (arith, t .long, t .fits))
+
+enum-told : tie.Need-enum-told Inv-loop μ-loop
+enum-told c = search needs
+
+same-length : tie.Need-same-length Inv-loop μ-loop
+same-length c = same (c .before) ∙ sym (c .before .before .before .before .before .before .before .pre .0)
+
+-- a record is there
+real : (c : tie.At-match-keys2 Inv-loop μ-loop) → c .before .before .find-front .result .kind ≡ NoKind → ⊥
+real c q = ⊎-elim (λ w. omega arith) (λ w. omega arith) (rw q at (c .match .keys2))
+
+returns : tie.Need-returns Inv-loop μ-loop
+returns c =
+    let j = joined (c .before) in
+    let d = c .before .before in
+    turn-found _ _ _ _ _ (d .before .before .loop .inv) _ (d .find-front .ensures) _ _ (j .0) (j .1) (real c)
+
+same-length-2 : tie.Need-same-length-2 Inv-loop μ-loop
+same-length-2 c =
+    let d = c .before .before .before in
+    same d ∙ sym (d .before .before .before .before .before .before .pre .0)
+
+returns-2 : tie.Need-returns-2 Inv-loop μ-loop
+returns-2 c =
+    let j = joined (c .before .before .before) in
+    let d = c .before .before .before .before in
+    let k = c .before .enum-told .given .1 in
+    turn-end _ _ _ _ _ (d .before .before .loop .inv) _ (d .find-front .ensures) _ _ (j .0) (j .1) k (c .if2 .taken)
+
+shared-slice-read-b : tie.Need-shared-slice-read-b Inv-loop μ-loop
+shared-slice-read-b c = let w = c .before .before .before .before .before .before .before .loop .inv .within in search needs
+
+-- a place is free
+room : (c : tie.Else2 Inv-loop μ-loop) → c .before .before .before .if1 .n < storeLength
+room c =
+    let j = joined (c .before .before .before) in
+    let d = c .before .before .before .before in
+    turn-room _ _ _ _ _ (d .before .before .loop .inv) _ (d .find-front .ensures) _ _ (j .0) (j .1) (c .before .enum-told .given .1)
+
+slice-write-b : tie.Need-slice-write-b Inv-loop μ-loop
+slice-write-b c =
+    let r = room (c .before) in
+    omega (arith, same (c .before .before .before .before))
+
+add-n : tie.Need-add-n Inv-loop μ-loop
+add-n c = let r = room (c .before .before) in omega arith
+
+add-used : tie.Need-add-used Inv-loop μ-loop
+add-used c = search needs
+
+-- the places that the needs below speak of
+abbrev start : tie.After-row-known Inv-loop μ-loop → tie.Start Inv-loop μ-loop
+start c = c .before .before .before .before .before .before .before .before .before .before .before
+
+abbrev head : tie.After-row-known Inv-loop μ-loop → tie.At-loop Inv-loop μ-loop
+head c = c .before .before .before .before .before .before .before .before
+
+abbrev joint : tie.After-row-known Inv-loop μ-loop → tie.Joined1 Inv-loop μ-loop
+joint c = c .before .before .before .before .before
+
+-- the byte is taken
+taken : (c : tie.After-row-known Inv-loop μ-loop)
+    → Turn
+    (reads (take (start c .args .count) (start c .args .b .now)) (drop (start c .args .from) (start c .args .piece .now)))
+    (start c .args .piece .now)
+    (set (joint c .if1 .b) (joint c .if1 .n) (getD (start c .args .piece .now) (head c .loop .used) 0))
+    (joint c .if1 .n + 1)
+    (head c .loop .used + 1)
+taken c =
+    let j = joined (joint c) in
+    let k = c .before .before .before .enum-told .given .1 in
+    turn-more _ _ _ _ _ (head c .loop .inv) _ (joint c .before .find-front .ensures) _ _ (j .0) (j .1) k (search needs)
+
+slice-reshare-prefix-calm : tie.Need-slice-reshare-prefix-calm Inv-loop μ-loop
+slice-reshare-prefix-calm c = turn-fits _ _ _ _ _ (taken c)
+
+slice-aggregate-calm : tie.Need-slice-aggregate-calm Inv-loop μ-loop
+slice-aggregate-calm c = turn-count _ _ _ _ _ (taken (c .before))
+
+sub-calm : tie.Need-sub-calm Inv-loop μ-loop
+sub-calm c = taken (c .before) .within
+
+calm-requires : tie.Need-calm-requires Inv-loop μ-loop
+calm-requires c κs = search needs
+
+-- the bytes that are taken with no look fit
+calmly : (c : tie.After-calm Inv-loop μ-loop)
+    → (joint (c .before .before) .if1 .n + 1 + c .calm .result ≤ storeLength)
+    × (head (c .before .before) .loop .used + 1 + c .calm .result ≤ length (start (c .before .before) .args .piece .now))
+calmly c = calm-room _ _ _ _ _ _ (taken (c .before .before)) (c .calm .ensures)
+
+add-copy : tie.Need-add-copy Inv-loop μ-loop
+add-copy c = let r = calmly c in omega arith
+
+sub-copy : tie.Need-sub-copy Inv-loop μ-loop
+sub-copy c = omega arith
+
+part-copy-start : tie.Need-part-copy-start Inv-loop μ-loop
+part-copy-start c = omega arith
+
+part-copy-end : tie.Need-part-copy-end Inv-loop μ-loop
+part-copy-end c = let r = calmly c in let e = turn-long _ _ _ _ _ (taken (c .before .before)) in omega arith
+
+add-copy-2 : tie.Need-add-copy-2 Inv-loop μ-loop
+add-copy-2 c = let r = calmly (c .before) in omega arith
+
+sub-copy-2 : tie.Need-sub-copy-2 Inv-loop μ-loop
+sub-copy-2 c = omega arith
+
+part-copy-start-2 : tie.Need-part-copy-start-2 Inv-loop μ-loop
+part-copy-start-2 c = omega arith
+
+part-copy-end-2 : tie.Need-part-copy-end-2 Inv-loop μ-loop
+part-copy-end-2 c = let r = calmly (c .before) in omega arith
+
+copy-requires : tie.Need-copy-requires Inv-loop μ-loop
+copy-requires c κs =
+    let d = c .before .before .before .before in
+    let r = calmly (c .before .before) in
+    let e = turn-long _ _ _ _ _ (taken d) in
+    part-long _ (joint d .if1 .n + 1) (c .before .before .calm .result) (omega arith)
+    ∙ sym (part-long (start d .args .piece .now) (head d .loop .used + 1) (c .before .before .calm .result) (r .1))
+
+add-n-2 : tie.Need-add-n-2 Inv-loop μ-loop
+add-n-2 c = let r = calmly (c .before .before .before .before .before) in omega arith
+
+add-used-2 : tie.Need-add-used-2 Inv-loop μ-loop
+add-used-2 c = let r = calmly (c .before .before .before .before .before) in omega arith
+
+loop-less : tie.Need-loop-less Inv-loop μ-loop
+loop-less c = let r = calmly (c .before .before .before .before .before) in omega arith
+
+loop-again : tie.Need-loop-again Inv-loop μ-loop
+loop-again c =
+    let d = c .before .before .before .before .before in
+    let k = c .before .before .copy in
+    turn-copy _ _ _ _ _ (d .calm .result) (taken (d .before .before)) (d .calm .ensures) (k .last .0) (k .ensures)
+
+pub fill-spec : {M : Type 1} → statement M
+fill-spec =
+    tie.close
+    (tie.spec
+    Inv-loop
+    μ-loop
+    loop-holds
+    slice-reshare-prefix-find-front
+    slice-aggregate-find-front
+    find-front-requires
+    slice-relend-prefix-shift
+    slice-aggregate-shift
+    shift-requires
+    sub-n
+    enum-told
+    same-length
+    returns
+    same-length-2
+    returns-2
+    shared-slice-read-b
+    slice-write-b
+    add-n
+    add-used
+    slice-reshare-prefix-calm
+    slice-aggregate-calm
+    sub-calm
+    calm-requires
+    add-copy
+    sub-copy
+    part-copy-start
+    part-copy-end
+    add-copy-2
+    sub-copy-2
+    part-copy-start-2
+    part-copy-end-2
+    copy-requires
+    add-n-2
+    add-used-2
+    loop-less
+    loop-again)

@@ -1,0 +1,193 @@
+-- `feed::reader::find` meets its contract. The loop's invariant: the store is as it was, and the bytes passed over cannot begin a mark.
+-- Assumes nothing.
+use Prim.Native.Nat.{_-_, _<_}
+use mathlib.Core.Path.{_≡_, refl, sym, _∙_, ap}
+use mathlib.Core.List.{[]}
+use native.Mathlib.Omega.{arith}
+use borrow.Author.Needs.{needs}
+use lib.ListN.{length, drop, take, length-drop}
+use lib.Seq.{take-all, length-take-le}
+use Rattle.feed.specs.Size.{storeLength}
+use Rattle.feed.specs.Format.{look}
+use Rattle.feed.specs.Reader.{store}
+use Rattle.feed.proofs.Finding.{finds-filled, held-place, none-held, finds-none, whole-within}
+use Rattle.feed.proofs.Finding.{Passed, passed-none, passed-more, passed-waits, passed-loses, passed-settles, passed-end}
+use Rattle.feed.proofs.reader.find.Statement.{statement}
+use Rattle.feed.proofs.reader.find.Tie as tie
+
+abbrev Inv-loop : tie.InvT-loop
+Inv-loop b₀ count piece from at₀ b at = (b ≡ b₀) × Passed piece from at
+
+abbrev μ-loop : tie.MeasureT-loop
+μ-loop b₀ count piece from at₀ b at = length piece - at
+
+fill-requires : tie.Need-fill-requires Inv-loop μ-loop
+fill-requires c κs = c .before .before .before .before .pre
+
+same-length : tie.Need-same-length Inv-loop μ-loop
+same-length c = c .before .before .fill .kept .0
+
+returns : tie.Need-returns Inv-loop μ-loop
+returns c =
+    let a = c .before .before .before .before .before .before .before .args in
+    let p = c .before .before .before .before .before .before .before .pre in
+    let n : length (take (a .count) (a .b .now)) ≡ a .count = length-take-le (a .count) (a .b .now) (omega arith) in
+    let z : 0 < length (take (a .count) (a .b .now)) = omega (arith, c .before .before .before .before .if1 .taken) in
+    let f = c .before .before .fill .ensures in
+    finds-filled (take (a .count) (a .b .now)) (a .piece .now) (a .from) _ _ _ refl (f .0) (f .1)
+    (held-place (take (a .count) (a .b .now)) (drop (a .from) (a .piece .now)) z)
+
+loop-holds : tie.Need-loop-holds Inv-loop μ-loop
+loop-holds c = (refl, passed-none _ _ (c .before .before .before .pre .1 .2))
+
+sub-look-at : tie.Need-sub-look-at Inv-loop μ-loop
+sub-look-at c = search needs
+
+part-look-at-start : tie.Need-part-look-at-start Inv-loop μ-loop
+part-look-at-start c = search needs
+
+part-look-at-end : tie.Need-part-look-at-end Inv-loop μ-loop
+part-look-at-end c = search needs
+
+look-at-requires : tie.Need-look-at-requires Inv-loop μ-loop
+look-at-requires c κs = search needs
+
+-- what is seen there
+seen : (c : tie.After-look-at Inv-loop μ-loop)
+    → c .look-at .result
+    ≡ look (drop (c .before .before .before .loop .at) (c .before .before .before .before .before .before .before .args .piece .now))
+seen c =
+    let at = c .before .before .before .loop .at in
+    let s = c .before .before .before .before .before .before .before .args .piece .now in
+    c .look-at .ensures ∙ ap look (take-all (length s - at) (drop at s) (simp length-drop (omega arith)))
+
+-- nothing is held
+none : (c : tie.At-loop Inv-loop μ-loop) → c .loop .b ≡ store []
+none c =
+    let a = c .before .before .before .before .args in
+    c .loop .inv .0 ∙ c .before .before .before .before .pre .1 .1 ∙ ap store (none-held (a .count) (a .b .now) (c .before .if1 .left))
+
+-- the store stays as long as it is
+long : (c : tie.At-loop Inv-loop μ-loop) → length (c .loop .b) ≡ storeLength
+long c = ap length (c .loop .inv .0) ∙ c .before .before .before .before .pre .0
+
+enum-told : tie.Need-enum-told Inv-loop μ-loop
+enum-told c = search needs
+
+add-at : tie.Need-add-at Inv-loop μ-loop
+add-at c = search needs
+
+loop-less : tie.Need-loop-less Inv-loop μ-loop
+loop-less c = search needs
+
+loop-again : tie.Need-loop-again Inv-loop μ-loop
+loop-again c =
+    let l = c .before .before .before .before .before in
+    (l .loop .inv .0, passed-more _ _ _ (l .loop .inv .1) (search needs) (sym (seen (c .before .before)) ∙ c .enum-told .given .1))
+
+enum-told-2 : tie.Need-enum-told-2 Inv-loop μ-loop
+enum-told-2 c = search needs
+
+fill-requires-2 : tie.Need-fill-requires-2 Inv-loop μ-loop
+fill-requires-2 c κs =
+    let l = c .before .before .before .before .before .before in
+    (long l, (omega arith, none l, l .loop .inv .1 .within))
+
+same-length-2 : tie.Need-same-length-2 Inv-loop μ-loop
+same-length-2 c =
+    let l = c .before .before .before .before .before .before .before .before .before in
+    c .before .before .fill2 .kept .0 ∙ ap length (l .loop .inv .0)
+
+returns-2 : tie.Need-returns-2 Inv-loop μ-loop
+returns-2 c =
+    let f = c .before .before .fill2 .ensures in
+    let d = c .before .before .before .before in
+    let l = d .before .before .before .before .before in
+    let e = sym (seen (d .before .before)) ∙ d .enum-told2 .given .1 in
+    finds-none _ _ _ _ _ _ (l .before .if1 .left) (passed-waits _ _ _ (l .loop .inv .1) e _ _ (f .0) (f .1))
+
+enum-told-3 : tie.Need-enum-told-3 Inv-loop μ-loop
+enum-told-3 c = search needs
+
+fill-requires-3 : tie.Need-fill-requires-3 Inv-loop μ-loop
+fill-requires-3 c κs =
+    let l = c .before .before .before .before .before .before in
+    (long l, (omega arith, none l, l .loop .inv .1 .within))
+
+same-length-3 : tie.Need-same-length-3 Inv-loop μ-loop
+same-length-3 c =
+    let l = c .before .before .before .before .before .before .before .before .before in
+    c .before .before .fill3 .kept .0 ∙ ap length (l .loop .inv .0)
+
+returns-3 : tie.Need-returns-3 Inv-loop μ-loop
+returns-3 c =
+    let f = c .before .before .fill3 .ensures in
+    let d = c .before .before .before .before in
+    let l = d .before .before .before .before .before in
+    let e = sym (seen (d .before .before)) ∙ d .enum-told3 .given .1 in
+    finds-none _ _ _ _ _ _ (l .before .if1 .left) (passed-loses _ _ _ (l .loop .inv .1) e _ _ (f .0) (f .1))
+
+enum-known-k : tie.Need-enum-known-k Inv-loop μ-loop
+enum-known-k c = search needs
+
+length-of-requires : tie.Need-length-of-requires Inv-loop μ-loop
+length-of-requires c κs = search needs
+
+add-t21 : tie.Need-add-t21 Inv-loop μ-loop
+add-t21 c =
+    let l = c .before .before .before .before .before .before .before in
+    let e = sym (seen (c .before .before .before .before)) ∙ c .before .before .k .given .1 in
+    let w = whole-within _ _ _ (l .loop .inv .1) _ e _ (c .length-of .ensures) in
+    omega arith
+
+same-length-4 : tie.Need-same-length-4 Inv-loop μ-loop
+same-length-4 c = ap length (c .before .before .before .before .before .before .before .loop .inv .0)
+
+returns-4 : tie.Need-returns-4 Inv-loop μ-loop
+returns-4 c =
+    let l = c .before .before .before .before .before .before .before in
+    let e = sym (seen (c .before .before .before .before)) ∙ c .before .before .k .given .1 in
+    finds-none _ _ _ _ _ _ (l .before .if1 .left) (passed-settles _ _ _ (l .loop .inv .1) _ e _ (c .length-of .ensures) _ (none l))
+
+same-length-5 : tie.Need-same-length-5 Inv-loop μ-loop
+same-length-5 c = ap length (c .before .loop .inv .0)
+
+returns-5 : tie.Need-returns-5 Inv-loop μ-loop
+returns-5 c =
+    let l = c .before in
+    let w = l .loop .inv .1 .within in
+    finds-none _ _ _ _ _ _ (l .before .if1 .left) (passed-end _ _ _ (l .loop .inv .1) (omega arith) _ (none l))
+
+pub find-spec : {M : Type 1} → statement M
+find-spec =
+    tie.close
+    (tie.spec
+    Inv-loop
+    μ-loop
+    fill-requires
+    same-length
+    returns
+    loop-holds
+    sub-look-at
+    part-look-at-start
+    part-look-at-end
+    look-at-requires
+    enum-told
+    add-at
+    loop-less
+    loop-again
+    enum-told-2
+    fill-requires-2
+    same-length-2
+    returns-2
+    enum-told-3
+    fill-requires-3
+    same-length-3
+    returns-3
+    enum-known-k
+    length-of-requires
+    add-t21
+    same-length-4
+    returns-4
+    same-length-5
+    returns-5)

@@ -1,0 +1,41 @@
+-- `feed::values::sample_at` meets its contract. Assumes nothing.
+use borrow.Author.Needs.{needs}
+use Rattle.feed.proofs.values.sample_at.Statement.{statement}
+use Rattle.feed.proofs.values.sample_at.Tie as tie
+
+four-at-requires : tie.Need-four-at-requires
+four-at-requires c κs = search needs
+
+add-four-at : tie.Need-add-four-at
+add-four-at c = search needs
+
+four-at-requires-2 : tie.Need-four-at-requires-2
+four-at-requires-2 c κs = search needs
+
+add-four-at-2 : tie.Need-add-four-at-2
+add-four-at-2 c = search needs
+
+four-at-requires-3 : tie.Need-four-at-requires-3
+four-at-requires-3 c κs = search needs
+
+add-t8 : tie.Need-add-t8
+add-t8 c = search needs
+
+shared-slice-read-t10 : tie.Need-shared-slice-read-t10
+shared-slice-read-t10 c = search needs
+
+returns : tie.Need-returns
+returns c = cc
+
+pub sample-at-spec : {M : Type 1} → statement M
+sample-at-spec =
+    tie.close
+    (tie.spec
+    four-at-requires
+    add-four-at
+    four-at-requires-2
+    add-four-at-2
+    four-at-requires-3
+    add-t8
+    shared-slice-read-t10
+    returns)

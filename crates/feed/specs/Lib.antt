@@ -1,0 +1,10 @@
+pub mod Size
+pub mod Bytes
+pub mod Format
+pub mod Reader
+pub mod Inside
+pub mod Values
+pub mod Report
+pub mod Call
+pub mod Masks
+pub mod Turn

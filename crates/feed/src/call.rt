@@ -1,0 +1,311 @@
+// The monitor and its call; and the run that hands a piece on until it is used up.
+ghost use mathlib.Core.Path.{_≡_};
+ghost use mathlib.Core.Bool.{true};
+ghost use Prim.Native.Nat.{_≤_, _/_};
+ghost use lib.ListN.{length, take, drop};
+ghost use Rattle.cycle.specs.Hall.{stepped};
+ghost use Rattle.feed.specs.Size.{minorLength, majorLength, storeLength, mostHeld, reportLength};
+ghost use Rattle.feed.specs.Format.{lengthOf};
+ghost use Rattle.feed.specs.Reader.{store};
+ghost use Rattle.feed.specs.Values.{minorOf, majorOf, valuesOf, majorOfKinds};
+ghost use Rattle.feed.specs.Call.{holding, called, call, startedOver, runs, Ran-by};
+ghost use Rattle.feed.specs.Masks.{startedFrom};
+ghost use Rattle.feed.specs.Turn.{foundIn, leftCount, leftBytes, Turns};
+use crate::format::Kind;
+use crate::format::length_of;
+use crate::masks::masks_of;
+use crate::reader::clear;
+use crate::reader::find;
+use crate::reader::held_count;
+use crate::reader::shift;
+use crate::report::write_report;
+use crate::size::MAP;
+use crate::size::OUTBOX_NEEDED;
+use crate::size::REPORT;
+use crate::size::STORE;
+use crate::values::major_of;
+use crate::values::minor_of;
+use cycle::answer::Answer;
+use cycle::hall::Hall;
+use cycle::hall::Stepped;
+use cycle::hall::start;
+use cycle::map::Masks;
+use cycle::number::Verdict;
+use cycle::number::judged;
+use cycle::size::STRINGS;
+use cycle::values::Major;
+use cycle::values::Minor;
+
+// The hall, and the tail of the feed: only the first `count` bytes of `held` count.
+pub struct Monitor {
+    pub hall: Hall,
+    pub held: [u8; STORE],
+    pub count: usize,
+}
+
+// What a call gives back.
+pub struct Outcome {
+    pub answer: Answer,
+    pub used: usize,
+    pub monitor: Monitor,
+}
+
+// What a run over a piece gives back: the bytes of the piece used and of the outbox written, and whether there is more to come out.
+pub struct Ran {
+    pub used: usize,
+    pub written: usize,
+    pub more: bool,
+    pub monitor: Monitor,
+}
+
+// What one turn leaves: whether a record was settled, the answer, the hall, the bytes held and the bytes of the piece used.
+pub struct Turned {
+    pub settled: bool,
+    pub answer: Answer,
+    pub hall: Hall,
+    pub count: usize,
+    pub used: usize,
+}
+
+// The first 57 bytes of the record found: in the store, or in the piece from `at` on.
+fn minor_in(b: &[u8], piece: &[u8], held: bool, at: usize) -> Minor
+    requires { ⌜ minorLength ≤ length (foundIn held at (now b) (now piece)) ⌝ }
+    ensures { λ r. ⌜ r ≡ minorOf (foundIn held at (now (b .entry)) (now (piece .entry))) ⌝ }
+{
+    if held {
+        minor_of(b)
+    } else {
+        minor_of(&piece[at..])
+    }
+}
+
+// All of a major record found.
+fn major_in(b: &[u8], piece: &[u8], held: bool, at: usize) -> Major
+    requires { ⌜ majorLength ≤ length (foundIn held at (now b) (now piece)) ⌝ }
+    ensures { λ r. ⌜ r ≡ majorOf (foundIn held at (now (b .entry)) (now (piece .entry))) ⌝ }
+{
+    if held {
+        major_of(b)
+    } else {
+        major_of(&piece[at..])
+    }
+}
+
+// Is the record of the major kind?
+pub fn is_major(k: Kind) -> bool
+    ensures { λ r. ⌜ r ≡ majorOfKinds k ⌝ }
+{
+    match k {
+        Kind::NoKind => false,
+        Kind::Minor => false,
+        Kind::Major => true,
+    }
+}
+
+// The record found steps the hall.
+fn step_found(hall: Hall, kind: Kind, b: &[u8], piece: &[u8], held: bool, at: usize) -> Stepped
+    requires { ⌜ (minorLength ≤ lengthOf kind) × (lengthOf kind ≤ length (foundIn held at (now b) (now piece))) ⌝ }
+    ensures { λ r. ⌜ r ≡ stepped (valuesOf kind (foundIn held at (now (b .entry)) (now (piece .entry)))) hall ⌝ }
+{
+    let r = minor_in(b, piece, held, at);
+    let major = is_major(kind);
+    let v = judged(hall.n, r.wire, major);
+    match v {
+        Verdict::Takes(next) => {
+            let h = hall.minor_taken(r, next);
+            if major {
+                let q = major_in(b, piece, held, at);
+                Stepped {
+                    answer: Answer::Taken,
+                    hall: h.major_taken(q),
+                }
+            } else {
+                Stepped {
+                    answer: Answer::Taken,
+                    hall: h,
+                }
+            }
+        }
+        Verdict::Refuses(answer) => Stepped {
+            answer: answer,
+            hall: hall,
+        },
+    }
+}
+
+// The settled record leaves the store, if it is there.
+fn removed(b: &mut [u8], held: bool, count: usize, kind: Kind) -> usize
+    requires { ⌜ count ≤ length (now b) ⌝ }
+    requires { ⌜ (held ≡ true → lengthOf kind ≤ count) ⌝ }
+    ensures { λ r. ⌜ (r ≡ leftCount held kind count) × (now (b .exit) ≡ leftBytes held kind count (now (b .entry))) ⌝ }
+{
+    if held {
+        let k = length_of(kind);
+        shift(&mut b[..count], k);
+        count - k
+    } else {
+        count
+    }
+}
+
+// One record settled, answered and reported, or none: a call on a store that is in order, with bytes of the piece from `from` on.
+fn turn(hall: Hall, b: &mut [u8], count: usize, piece: &[u8], from: usize, out: &mut [u8]) -> Turned
+    requires { ⌜ length (now b) ≡ storeLength ⌝ }
+    requires { ⌜ (count ≤ mostHeld) × (now b ≡ store (take count (now b))) × (from ≤ length (now piece)) × (reportLength ≤ length (now out)) ⌝ }
+    ensures { λ r. ⌜ Turns (called (holding hall (take count (now (b .entry)))) (drop from (now (piece .entry))) (now (out .entry))) from r (now (b .exit)) (now (out .exit)) ⌝ }
+{
+    let f = find(b, count, piece, from);
+    let kind = f.kind;
+    let held = f.held;
+    let n = f.count;
+    let at = f.at;
+    if length_of(kind) == 0 {
+        return Turned {
+            settled: false,
+            answer: Answer::NothingSettled,
+            hall: hall,
+            count: n,
+            used: f.used,
+        };
+    }
+    let x = step_found(hall, kind, b, piece, held, at);
+    let left = removed(b, held, n, kind);
+    let answer = x.answer;
+    let h = x.hall;
+    write_report(out, answer, h);
+    Turned {
+        settled: true,
+        answer: answer,
+        hall: h,
+        count: left,
+        used: f.used,
+    }
+}
+
+impl Monitor {
+    // A fresh monitor over a map.
+    pub fn start(masks: [Masks; STRINGS]) -> Outcome
+        ensures { λ r. ⌜ r ≡ startedOver masks ⌝ }
+    {
+        let s = start(masks);
+        let answer = s.answer;
+        let hall = s.hall;
+        let held = [0u8; STORE];
+        let monitor = Monitor {
+            hall: hall,
+            held: held,
+            count: 0,
+        };
+        Outcome {
+            answer: answer,
+            used: 0,
+            monitor: monitor,
+        }
+    }
+
+    // A fresh monitor over the map that 64 bytes give; bytes of another number are refused.
+    pub fn start_from(bytes: &[u8]) -> Outcome
+        ensures { λ r. ⌜ r ≡ startedFrom (now (bytes .entry)) ⌝ }
+    {
+        if bytes.len() == MAP {
+            Monitor::start(masks_of(bytes))
+        } else {
+            let none = Masks::none();
+            let empty = [none; STRINGS];
+            let hall = Hall::fresh(empty);
+            let held = [0u8; STORE];
+            let monitor = Monitor {
+                hall: hall,
+                held: held,
+                count: 0,
+            };
+            Outcome {
+                answer: Answer::MapRefused,
+                used: 0,
+                monitor: monitor,
+            }
+        }
+    }
+
+    // One call.
+    pub fn call(self, piece: &[u8], out: &mut [u8]) -> Outcome
+        ensures { λ r. ⌜ (r ≡ call self (now (piece .entry)) (now (out .entry)) .outcome) × (now (out .exit) ≡ call self (now (piece .entry)) (now (out .entry)) .outbox) ⌝ }
+    {
+        if out.len() < OUTBOX_NEEDED {
+            return Outcome {
+                answer: Answer::OutboxShort,
+                used: 0,
+                monitor: self,
+            };
+        }
+        let hall = self.hall;
+        let mut b = self.held;
+        let n = held_count(self.count);
+        clear(&mut b[n..]);
+        let t = turn(hall, &mut b[..], n, piece, 0, out);
+        let answer = t.answer;
+        let next = t.hall;
+        let monitor = Monitor {
+            hall: next,
+            held: b,
+            count: t.count,
+        };
+        Outcome {
+            answer: answer,
+            used: t.used,
+            monitor: monitor,
+        }
+    }
+
+    // Calls, one after the other, each with the next 34 bytes of the outbox, until one settles nothing or there is no room for a report.
+    pub fn run(self, piece: &[u8], out: &mut [u8]) -> Ran
+        ensures { λ r. ⌜ Ran-by (runs (length (now (out .entry)) / reportLength) self (now (piece .entry))) (now (out .entry)) r (now (out .exit)) ⌝ }
+    {
+        if out.len() < REPORT {
+            return Ran {
+                used: 0,
+                written: 0,
+                more: true,
+                monitor: self,
+            };
+        }
+        let mut hall = self.hall;
+        let mut b = self.held;
+        let mut count = held_count(self.count);
+        clear(&mut b[count..]);
+        let mut used: usize = 0;
+        let mut written: usize = 0;
+        while REPORT <= out.len() - written {
+            let t = turn(hall, &mut b[..], count, piece, used, &mut out[written..]);
+            let next = t.hall;
+            hall = next;
+            count = t.count;
+            used = t.used;
+            if !t.settled {
+                let monitor = Monitor {
+                    hall: hall,
+                    held: b,
+                    count: count,
+                };
+                return Ran {
+                    used: used,
+                    written: written,
+                    more: false,
+                    monitor: monitor,
+                };
+            }
+            written += REPORT;
+        }
+        let monitor = Monitor {
+            hall: hall,
+            held: b,
+            count: count,
+        };
+        Ran {
+            used: used,
+            written: written,
+            more: true,
+            monitor: monitor,
+        }
+    }
+}

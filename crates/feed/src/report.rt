@@ -1,0 +1,117 @@
+// The report, written into the outbox part by part.
+ghost use mathlib.Core.Path.{_≡_};
+ghost use mathlib.Core.List.{_++_};
+ghost use Prim.Native.Nat.{_≤_};
+ghost use lib.ListN.{length, take, drop};
+ghost use Rattle.cycle.specs.Size.{stringCount, moduleCount};
+ghost use Rattle.feed.specs.Bytes.{inTwo};
+ghost use Rattle.feed.specs.Size.{reportLength, stringsFrom, stringPart, balanceAt};
+ghost use Rattle.feed.specs.Report.{headOf, stringBytes, stringsBytes, balanceOf, banksBytes, reportOf};
+use crate::size::BALANCE_AT;
+use crate::size::LESSER_FROM;
+use crate::size::LESSER_LENGTH;
+use crate::size::MARK;
+use crate::size::STRING_PART;
+use crate::size::STRINGS_FROM;
+use bits::with_bit;
+use cycle::answer::Answer;
+use cycle::banks::Bank;
+use cycle::hall::Hall;
+use cycle::size::MODULES;
+use cycle::size::STRINGS;
+
+// Mark, answer and cycle number.
+fn put_head(s: &mut [u8], answer: u8, n: u32)
+    requires { ⌜ length (now s) ≡ stringsFrom ⌝ }
+    ensures { λ r. ⌜ now (s .exit) ≡ headOf answer n ⌝ }
+{
+    s[0] = MARK;
+    s[1] = MARK;
+    s[2] = answer;
+    s[3] = (n / 16777216 % 256) as u8;
+    s[4] = (n / 65536 % 256) as u8;
+    s[5] = (n / 256 % 256) as u8;
+    s[6] = (n % 256) as u8;
+}
+
+// A string's five bytes, into their own part of the outbox.
+fn put_string(s: &mut [u8], fail: u32, close: u32)
+    requires { ⌜ length (now s) ≡ stringPart ⌝ }
+    ensures { λ r. ⌜ now (s .exit) ≡ stringBytes fail close ⌝ }
+{
+    s[0] = (fail / 16777216 % 256) as u8;
+    s[1] = (fail / 65536 % 256) as u8;
+    s[2] = (fail / 256 % 256) as u8;
+    s[3] = (fail % 256) as u8;
+    s[4] = (close % 256) as u8;
+}
+
+// A module's lesser quantity.
+fn put_lesser(s: &mut [u8], lesser: u16)
+    requires { ⌜ length (now s) ≡ 2 ⌝ }
+    ensures { λ r. ⌜ now (s .exit) ≡ inTwo lesser ⌝ }
+{
+    s[0] = (lesser / 256 % 256) as u8;
+    s[1] = (lesser % 256) as u8;
+}
+
+// The balance byte's bits.
+pub fn balance_of(banks: [Bank; MODULES]) -> u32
+    ensures { λ r. ⌜ r ≡ balanceOf moduleCount banks ⌝ }
+{
+    let mut w: u32 = 0;
+    let mut m: usize = 0;
+    while m < MODULES {
+        let b = banks[m];
+        w = with_bit(w, m, b.unbalanced);
+        w = with_bit(w, 4 + m, b.oxidizer);
+        m += 1;
+    }
+    w
+}
+
+// The parts of all strings.
+fn put_strings(out: &mut [u8], h: Hall)
+    requires { ⌜ reportLength ≤ length (now out) ⌝ }
+    ensures { λ r. ⌜ now (out .exit) ≡ take stringsFrom (now (out .entry)) ++ (stringsBytes stringCount h ++ drop balanceAt (now (out .entry))) ⌝ }
+{
+    let mut s: usize = 0;
+    while s < STRINGS {
+        let a = STRINGS_FROM + STRING_PART * s;
+        let m = h.masks[s];
+        let x = h.strings[s];
+        let standing = x.standing;
+        put_string(
+            &mut out[a..a + STRING_PART],
+            m.mapped() & standing.fail,
+            x.close,
+        );
+        s += 1;
+    }
+}
+
+// The balance byte and the lesser quantities.
+fn put_banks(out: &mut [u8], banks: [Bank; MODULES])
+    requires { ⌜ reportLength ≤ length (now out) ⌝ }
+    ensures { λ r. ⌜ now (out .exit) ≡ take balanceAt (now (out .entry)) ++ (banksBytes banks ++ drop reportLength (now (out .entry))) ⌝ }
+{
+    out[BALANCE_AT] = (balance_of(banks) % 256) as u8;
+    let mut m: usize = 0;
+    while m < MODULES {
+        let a = LESSER_FROM + LESSER_LENGTH * m;
+        let b = banks[m];
+        put_lesser(&mut out[a..a + LESSER_LENGTH], b.lesser);
+        m += 1;
+    }
+}
+
+// The report of answer and hall; the bytes after it keep their values.
+pub(crate) fn write_report(out: &mut [u8], answer: Answer, h: Hall)
+    requires { ⌜ reportLength ≤ length (now out) ⌝ }
+    ensures { λ r. ⌜ now (out .exit) ≡ reportOf answer h ++ drop reportLength (now (out .entry)) ⌝ }
+{
+    put_head(&mut out[0..STRINGS_FROM], answer.number(), h.n);
+    put_strings(out, h);
+    let banks = h.banks;
+    put_banks(out, banks);
+}

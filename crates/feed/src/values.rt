@@ -1,0 +1,172 @@
+// The values of a record: its bytes as the cycle rules take them.
+ghost use mathlib.Core.Path.{_≡_};
+ghost use Prim.Native.Nat.{_+_, _<_, _≤_};
+ghost use lib.ListN.{length};
+ghost use Rattle.cycle.specs.Size.{stringCount, moduleCount};
+ghost use Rattle.feed.specs.Size.{minorLength, majorLength, temperatureCount};
+ghost use Rattle.feed.specs.Values.{sampleAt, samplesOf, minorOf, temperaturesAt, temperaturesOf, requestsAt, requestsOf, quantitiesAt, quantitiesOf, majorOf};
+use crate::bytes::four_at;
+use crate::bytes::two_at;
+use crate::size::PATH_AT;
+use crate::size::QUANTITIES_FROM;
+use crate::size::QUANTITIES_LENGTH;
+use crate::size::REQUESTS_FROM;
+use crate::size::REQUESTS_LENGTH;
+use crate::size::SAMPLE_LENGTH;
+use crate::size::SAMPLES_FROM;
+use crate::size::TEMPERATURES_FROM;
+use crate::size::TEMPERATURES_LENGTH;
+use cycle::size::MODULES;
+use cycle::size::STRINGS;
+use cycle::size::TEMPERATURES;
+use cycle::values::Major;
+use cycle::values::Minor;
+use cycle::values::Quantities;
+use cycle::values::Requests;
+use cycle::values::Sample;
+use cycle::values::Temperatures;
+
+// One string's 13 bytes, from `i` on.
+fn sample_at(s: &[u8], i: usize) -> Sample
+    requires { ⌜ i + 12 < length (now s) ⌝ }
+    ensures { λ r. ⌜ r ≡ sampleAt (now (s .entry)) i ⌝ }
+{
+    Sample {
+        commanded: four_at(s, i),
+        pressure: four_at(s, i + 4),
+        driver: four_at(s, i + 8),
+        valves: s[i + 12],
+    }
+}
+
+fn samples_of(s: &[u8]) -> [Sample; STRINGS]
+    requires { ⌜ minorLength ≤ length (now s) ⌝ }
+    ensures { λ r. ⌜ r ≡ samplesOf stringCount (now (s .entry)) ⌝ }
+{
+    let none = Sample {
+        commanded: 0,
+        pressure: 0,
+        driver: 0,
+        valves: 0,
+    };
+    let mut samples = [none; STRINGS];
+    let mut k: usize = 0;
+    while k < STRINGS {
+        samples[k] = sample_at(s, SAMPLES_FROM + SAMPLE_LENGTH * k);
+        k += 1;
+    }
+    samples
+}
+
+// What a minor record says, and a major one in its first 57 bytes.
+pub(crate) fn minor_of(s: &[u8]) -> Minor
+    requires { ⌜ minorLength ≤ length (now s) ⌝ }
+    ensures { λ r. ⌜ r ≡ minorOf (now (s .entry)) ⌝ }
+{
+    let samples = samples_of(s);
+    Minor {
+        wire: two_at(s, 2),
+        path: s[PATH_AT],
+        samples: samples,
+    }
+}
+
+// One string's temperature words, from `i` on.
+fn temperatures_at(s: &[u8], i: usize) -> Temperatures
+    requires { ⌜ i + 127 < length (now s) ⌝ }
+    ensures { λ r. ⌜ r ≡ temperaturesAt (now (s .entry)) i ⌝ }
+{
+    let mut words = [0u16; TEMPERATURES];
+    let mut k: usize = 0;
+    while k < TEMPERATURES {
+        words[k] = two_at(s, i + 2 * k);
+        k += 1;
+    }
+    Temperatures { words: words }
+}
+
+fn temperatures_of(s: &[u8]) -> [Temperatures; STRINGS]
+    requires { ⌜ majorLength ≤ length (now s) ⌝ }
+    ensures { λ r. ⌜ r ≡ temperaturesOf stringCount (now (s .entry)) ⌝ }
+{
+    let words = [0u16; TEMPERATURES];
+    let zero = Temperatures { words: words };
+    let mut all = [zero; STRINGS];
+    let mut k: usize = 0;
+    while k < STRINGS {
+        all[k] = temperatures_at(s, TEMPERATURES_FROM + TEMPERATURES_LENGTH * k);
+        k += 1;
+    }
+    all
+}
+
+fn requests_at(s: &[u8], i: usize) -> Requests
+    requires { ⌜ i + 7 < length (now s) ⌝ }
+    ensures { λ r. ⌜ r ≡ requestsAt (now (s .entry)) i ⌝ }
+{
+    Requests {
+        inhibit: four_at(s, i),
+        reenable: four_at(s, i + 4),
+    }
+}
+
+fn requests_of(s: &[u8]) -> [Requests; STRINGS]
+    requires { ⌜ majorLength ≤ length (now s) ⌝ }
+    ensures { λ r. ⌜ r ≡ requestsOf stringCount (now (s .entry)) ⌝ }
+{
+    let none = Requests {
+        inhibit: 0,
+        reenable: 0,
+    };
+    let mut all = [none; STRINGS];
+    let mut k: usize = 0;
+    while k < STRINGS {
+        all[k] = requests_at(s, REQUESTS_FROM + REQUESTS_LENGTH * k);
+        k += 1;
+    }
+    all
+}
+
+fn quantities_at(s: &[u8], i: usize) -> Quantities
+    requires { ⌜ i + 3 < length (now s) ⌝ }
+    ensures { λ r. ⌜ r ≡ quantitiesAt (now (s .entry)) i ⌝ }
+{
+    Quantities {
+        fuel: two_at(s, i),
+        oxidizer: two_at(s, i + 2),
+    }
+}
+
+fn quantities_of(s: &[u8]) -> [Quantities; MODULES]
+    requires { ⌜ majorLength ≤ length (now s) ⌝ }
+    ensures { λ r. ⌜ r ≡ quantitiesOf moduleCount (now (s .entry)) ⌝ }
+{
+    let none = Quantities {
+        fuel: 0,
+        oxidizer: 0,
+    };
+    let mut all = [none; MODULES];
+    let mut m: usize = 0;
+    while m < MODULES {
+        all[m] = quantities_at(s, QUANTITIES_FROM + QUANTITIES_LENGTH * m);
+        m += 1;
+    }
+    all
+}
+
+// What a major record says.
+pub(crate) fn major_of(s: &[u8]) -> Major
+    requires { ⌜ majorLength ≤ length (now s) ⌝ }
+    ensures { λ r. ⌜ r ≡ majorOf (now (s .entry)) ⌝ }
+{
+    let minor = minor_of(s);
+    let temperatures = temperatures_of(s);
+    let requests = requests_of(s);
+    let quantities = quantities_of(s);
+    Major {
+        minor: minor,
+        temperatures: temperatures,
+        requests: requests,
+        quantities: quantities,
+    }
+}
