@@ -242,3 +242,27 @@ runs-start m b n piece out room long e f =
     let same : monitorAt (m .hall) b n ≡ holding (m .hall) (holds m) =
     λ i. record { hall = m .hall; held = (f ∙ ap store held) i; count = number i } in
     rw (same, k) (runs-in-order (length out / reportLength - 1) m piece)
+
+-- ---- what a run uses and writes
+
+used-then : (n : ℕ) (m : Monitor) (piece : List ℕ) → (b : Bool) → settledAny ((called m piece []) .outcome .answer) ≡ b
+    → (runs n ((called m piece []) .outcome .monitor) (drop ((called m piece []) .outcome .used) piece)) .used
+    ≤ length (drop ((called m piece []) .outcome .used) piece)
+    → (runs (suc n) m piece) .used ≤ length piece
+used-then n m piece true e h =
+    let u = used-within m piece [] in
+    rw (runs-more n m piece e) (omega (arith, length-drop ((called m piece []) .outcome .used) piece))
+used-then n m piece false e h = rw (runs-last n m piece e) (used-within m piece [])
+
+-- no more of the piece than there is
+pub runs-within : (n : ℕ) (m : Monitor) (piece : List ℕ) → (runs n m piece) .used ≤ length piece
+runs-within zero m piece = rw (runs-none m piece) (omega arith)
+runs-within (suc n) m piece =
+    used-then n m piece (settledAny ((called m piece []) .outcome .answer)) refl
+    (runs-within n ((called m piece []) .outcome .monitor) (drop ((called m piece []) .outcome .used) piece))
+
+-- no more of the outbox than there is, its length being kept
+pub written-within : (x : Reported) (out : List ℕ) (r : Ran) (after : List ℕ) → Ran-by x out r after → length after ≡ length out
+    → r .written ≤ length out
+written-within x out r after b e =
+    omega (arith, b .written, sym e ∙ ap length (b .outbox) ∙ length-append (x .reports) (drop (length (x .reports)) out), length-drop (length (x .reports)) out)
