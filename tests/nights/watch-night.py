@@ -1,0 +1,63 @@
+#!/usr/bin/env python3
+"""Writes the night that the gate runs `watch` on: the map, then ten seconds of feed with the mishaps that the monitor is for.
+
+String 0 has four jets on manifold 0 and four on manifold 1; string 1 has one jet on manifold 3.
+"""
+import struct
+import sys
+
+MASKS = [[0x0000000F, 0x000000F0, 0, 0], [0, 0, 0, 0x80000000], [0] * 4, [0] * 4]
+
+
+def record(cycle, path=0, strings=None, temps=None, requests=None, banks=None):
+    """A record of the right kind for its cycle; strings: {s: (C, P, D, V)}."""
+    major = cycle % 25 == 0
+    r = bytearray(b"\x52\x4A" if major else b"\x52\x4D")
+    r += struct.pack(">HB", cycle % 65536, path)
+    for s in range(4):
+        c, p, d, v = (strings or {}).get(s, (0, 0, 0, 15))
+        r += struct.pack(">IIIB", c, p, d, v)
+    if major:
+        for s in range(4):
+            for j in range(32):
+                r += struct.pack(">HH", *(temps or {}).get((s, j), (64, 64)))
+        for s in range(4):
+            r += struct.pack(">II", *(requests or {}).get(s, (0, 0)))
+        for m in range(3):
+            r += struct.pack(">HH", *(banks or {}).get(m, (500, 500)))
+    return bytes(r + struct.pack(">H", sum(r) % 65536))
+
+
+def night():
+    out = [b"".join(struct.pack(">I", m) for s in MASKS for m in s)]
+    for cycle in range(1, 251):
+        strings, path, temps, requests, banks = {}, 0, {}, {}, {}
+        if 3 <= cycle <= 5:
+            strings[0] = (0x04, 0, 0, 15)  # jet 2 is commanded and has no pressure: failed off at 5
+        if 40 <= cycle < 60:
+            strings[0] = (0, 0, 0, 14)  # manifold 0's valve is closed by hand, and opened again
+        if cycle in (100, 125, 150):
+            strings[0] = (0, 0, 0x20, 15)  # the driver of jet 5 stays on: failed at 125, manifold 1 to be closed at 150
+        if cycle in (150, 175, 200):
+            temps[(1, 31)] = (63, 500)  # jet 31 of string 1 leaks: failed at 175, manifold 3 to be closed at 200
+        if 70 <= cycle < 80:
+            path = 1  # the data path of string 0 fails and recovers
+        if cycle == 225:
+            requests[0] = (0, 0x04)  # jet 2 is re-enabled
+            banks[1] = (517, 500)  # module 1 out of balance
+        whole = record(cycle, path, strings, temps, requests, banks)
+        if cycle == 30:
+            out.append(whole[:31])  # a cable is pulled in the middle of a record
+            out.append(b"\x52\x52\x4D")
+        out.append(whole)
+        if cycle == 90:
+            out.append(record(60) + whole)  # a link brings back an old record and the newest one again
+        if cycle == 110:
+            bad = bytearray(record(111))
+            bad[20] ^= 1
+            out.append(bytes(bad))  # a record with a wrong sum
+    return b"".join(out)
+
+
+if __name__ == "__main__":
+    sys.stdout.buffer.write(night())
