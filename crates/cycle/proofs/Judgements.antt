@@ -1,5 +1,5 @@
--- The answers: every record is judged in exactly one way, each answer exactly under its stated condition, which is arithmetic on d, n and the
--- kind; and what a taken record leads to. Assumes nothing.
+-- The answers: every record is judged in exactly one way, each answer exactly under its stated condition, which is arithmetic on d, n and
+-- the kind; and what a taken record leads to. Assumes nothing.
 use mathlib.Core.Path.{_≡_, refl, sym, ap, _∙_}
 use mathlib.Core.Bool.{Bool, true, false, not}
 use Prim.Native.Nat.{ℕ, _+_, _%_, _<_, _≤_}

@@ -1,5 +1,5 @@
--- One cycle of a string, jet by jet, with yes and no values: 01, "One cycle of a string", in its words and its order. A jet has one manifold;
--- its rule reads its own inputs, its manifold's valve, its string's path, the gap, and what is remembered of it. Assumes nothing.
+-- One cycle of a string, jet by jet, with yes and no values: 01, "One cycle of a string", in its words and its order. A jet has one
+-- manifold; its rule reads its own inputs, its manifold's valve, its string's path, the gap, and what is remembered of it. Assumes nothing.
 use mathlib.Core.Bool.{Bool, true, false, not, cond, _&&_, _||_}
 use mathlib.Core.List.{List, [], _∷_}
 use Prim.Native.Nat.{ℕ}
@@ -11,8 +11,8 @@ use Rattle.cycle.specs.declared.jet.JetOn.{JetOn}
 use Rattle.cycle.specs.declared.jet.JetOverrides.{JetOverrides}
 use Rattle.cycle.specs.declared.jet.JetState.{JetState}
 
--- What a taken record says of one jet: the cycle number it leads to, its string's path bit, the jet's commanded, pressure and driver bits and
--- whether its manifold's valve is open; in a major cycle also the requests that name it and its temperature words.
+-- What a taken record says of one jet: the cycle number it leads to, its string's path bit, the jet's commanded, pressure and driver bits
+-- and whether its manifold's valve is open; in a major cycle also the requests that name it and its temperature words.
 pub record JetRecord : Type 0 where
   pub n : ℕ
   pub path : Bool

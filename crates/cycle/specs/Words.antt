@@ -1,5 +1,5 @@
--- One cycle of a string on packed words: the rules of Jets for 32 jets at once, jet j being bit j. That each bit is what Jets says is proved
--- (proofs/). Masks are one string's, manifold 0 first; `m` is the number of manifolds. Assumes nothing.
+-- One cycle of a string on packed words: the rules of Jets for 32 jets at once, jet j being bit j. That each bit is what Jets says is
+-- proved (proofs/). Masks are one string's, manifold 0 first; `m` is the number of manifolds. Assumes nothing.
 use mathlib.Core.Bool.{Bool, true, false, not, cond, _||_}
 use mathlib.Core.List.{List}
 use Prim.Native.Nat.{ℕ, zero, suc, _+_, _*_}

@@ -25,4 +25,5 @@ pub mod FoundSteps
 pub mod Turning
 pub mod Calling
 pub mod CallBounds
+pub mod Tails
 pub mod Running

@@ -1,5 +1,5 @@
--- What the reader's private functions do, as far as it is not said in Reader: where bytes are looked at in the piece itself, and how many are
--- copied at once. None of it shows in what a call does. Assumes nothing.
+-- What the reader's private functions do, as far as it is not said in Reader: where bytes are looked at in the piece itself, and how many
+-- are copied at once. None of it shows in what a call does. Assumes nothing.
 use mathlib.Core.Path.{_≡_}
 use mathlib.Core.Bool.{Bool, true, false, not, cond, _&&_}
 use mathlib.Core.List.{List, [], _∷_}

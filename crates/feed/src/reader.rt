@@ -48,7 +48,7 @@ pub fn find_front(s: &[u8]) -> Front
                 };
             }
             Look::Loses => {
-                at += 1;
+                at += 1; // only the first byte: a record may begin at the next
             }
             Look::Settles(k) => {
                 return Front { at: at, kind: k };

@@ -21,9 +21,10 @@ shl-result c = search needs
 returns : tie.Need-returns
 unfolding withBit
 returns c =
+    let start = c .before .before in
     rw (lt-ltb _ _ (c .before .if1 .taken), c .if2 .taken)
-    (ap (bitOr (c .before .before .args .w))
-    (shl-exact 1 (c .before .before .args .j) 32 (lit< tt) (omega (arith, c .before .if1 .taken)) ∙ one-mul (2 ^ (c .before .before .args .j))))
+    (ap (bitOr (start .args .w))
+    (shl-exact 1 (start .args .j) 32 (lit< tt) (omega (arith, c .before .if1 .taken)) ∙ one-mul (2 ^ (start .args .j))))
 
 returns-2 : tie.Need-returns-2
 unfolding withBit

@@ -21,7 +21,8 @@ abbrev μ-loop : tie.MeasureT-loop
 μ-loop input₀ out₀ n₀ m₀ at₀ left₀ input out n m at left = left
 
 -- a run uses no more than is there
-run-used : (c : tie.After-run Inv-loop μ-loop) → c .before .before .before .before .before .loop .at + c .run .result .used ≤ c .before .before .before .before .before .loop .n
+run-used : (c : tie.After-run Inv-loop μ-loop) → c .before .before .before .before .before .loop .at + c .run .result .used ≤
+    c .before .before .before .before .before .loop .n
 run-used c =
     let l = c .before .before .before .before .before .loop in
     let there : c .run .result .used ≤ length (take (l .n - l .at) (drop (l .at) (l .input))) =
@@ -32,8 +33,9 @@ run-used c =
 -- and writes within the outbox
 run-wrote : (c : tie.After-run Inv-loop μ-loop) → c .run .result .written ≤ length (c .run .last .1 .1 .0)
 run-wrote c =
+    let at-loop = c .before .before .before .before .before in
     let kept = c .run .kept .1 .1 .0 in
-    omega (arith, written-within _ (c .before .before .before .before .before .loop .out) (c .run .result) (c .run .last .1 .1 .0) (c .run .ensures) kept)
+    omega (arith, written-within _ (at-loop .loop .out) (c .run .result) (c .run .last .1 .1 .0) (c .run .ensures) kept)
 
 large-buffer-requires : tie.Need-large-buffer-requires Inv-loop μ-loop
 large-buffer-requires c κs = search needs
@@ -54,7 +56,11 @@ array-share-prefix-input : tie.Need-array-share-prefix-input Inv-loop μ-loop
 array-share-prefix-input c = search needs
 
 slice-aggregate-start-from : tie.Need-slice-aggregate-start-from Inv-loop μ-loop
-slice-aggregate-start-from c = sym (length-take-le 64 (c .before .before .before .read-map .last .0) (omega (arith, c .before .before .before .read-map .kept .0, c .before .before .before .before .before .before .large-buffer .ensures)))
+slice-aggregate-start-from c =
+    let at-read-map = c .before .before .before in
+    let at-large-buffer = at-read-map .before .before .before in
+    sym (length-take-le 64 (at-read-map .read-map .last .0)
+    (omega (arith, at-read-map .read-map .kept .0, at-large-buffer .large-buffer .ensures)))
 
 start-from-requires : tie.Need-start-from-requires Inv-loop μ-loop
 start-from-requires c κs = search needs
@@ -87,7 +93,9 @@ array-share-prefix-out : tie.Need-array-share-prefix-out Inv-loop μ-loop
 array-share-prefix-out c = run-wrote (c .before .before)
 
 slice-aggregate-write-out : tie.Need-slice-aggregate-write-out Inv-loop μ-loop
-slice-aggregate-write-out c = sym (length-take-le (c .before .before .before .run .result .written) (c .before .before .before .run .last .1 .1 .0) (run-wrote (c .before .before .before)))
+slice-aggregate-write-out c =
+    let at-run = c .before .before .before in
+    sym (length-take-le (at-run .run .result .written) (at-run .run .last .1 .1 .0) (run-wrote (at-run)))
 
 write-out-requires : tie.Need-write-out-requires Inv-loop μ-loop
 write-out-requires c κs = search needs
@@ -96,7 +104,10 @@ returns-3 : tie.Need-returns-3 Inv-loop μ-loop
 returns-3 c = search needs
 
 add-at : tie.Need-add-at Inv-loop μ-loop
-add-at c = omega (arith, run-used (c .before .before .before .before .before .before), c .before .before .before .before .before .before .before .before .before .before .before .loop .inv)
+add-at c =
+    let at-6 = c .before .before .before .before .before .before in
+    let at-loop = at-6 .before .before .before .before .before in
+    omega (arith, run-used (at-6), at-loop .loop .inv)
 
 slice-aggregate-read-ready : tie.Need-slice-aggregate-read-ready Inv-loop μ-loop
 slice-aggregate-read-ready c = search needs
@@ -115,12 +126,20 @@ loop-less c = search needs
 
 loop-again : tie.Need-loop-again Inv-loop μ-loop
 loop-again c =
-    let outLong = c .before .before .before .before .before .before .before .before .run .kept .1 .1 .0 ∙ c .before .before .before .before .before .before .before .before .before .before .before .before .before .loop .inv .1 in
+    let at-run = c .before .before .before .before .before .before .before .before in
+    let at-loop = at-run .before .before .before .before .before in
+    let outLong = at-run .run .kept .1 .1 .0 ∙ at-loop .loop .inv .1 in
     ⊎-elim
     (λ w.
-    let long = w .2 .kept .0 ∙ c .before .before .before .before .before .before .before .before .before .before .before .before .before .loop .inv .0 in
+    let long = w .2 .kept .0 ∙ at-loop .loop .inv .0 in
     (ap length (w .5) ∙ long, outLong, omega (arith, w .6, w .7), omega (arith, w .6, w .2 .ensures, long)))
-    (λ w. (ap length (w .1) ∙ c .before .before .before .before .before .before .before .before .before .before .before .before .before .loop .inv .0, outLong, omega (arith, w .2, w .3, run-used (c .before .before .before .before .before .before .before .before)), omega (arith, w .2, c .before .before .before .before .before .before .before .before .before .before .before .before .before .loop .inv .3)))
+    (λ w. (
+      ap length (w .1) ∙ at-loop .loop .inv .0,
+      outLong,
+      omega (arith, w .2, w .3, run-used (at-run)),
+      omega
+          (arith, w .2, at-loop .loop .inv .3),
+    ))
     (c .if3 .came)
 
 returns-5 : tie.Need-returns-5 Inv-loop μ-loop

@@ -72,7 +72,7 @@ loop-again c =
       search needs,
       rw add-one
           (each-next
-          (λ s x. minorCycle manifoldCount (masksOf (a .t2) s) (bit s (a .t3 .path)) (sampleOf (a .t3) s) (a .gap) (a .missed) x)
+          _
           pastString (a .strings) (at .s) (at .next) (c .minor-cycle .result) (at .inv .1)
           (rw (← c .before .has .ensures) (c .minor-cycle .ensures))),
     )

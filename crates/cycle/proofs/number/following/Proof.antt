@@ -26,26 +26,36 @@ missed-major-requires c κs = search needs
 
 returns-2 : tie.Need-returns-2
 returns-2 c =
-    let a = c .before .before .before .before .before .args in
-    let kind : isMajor (a .n + a .d) ≡ a .major = sym (c .before .before .before .is-major .ensures) ∙ c .before .if2 .taken ∙ sym (c .if3 .taken) in
+    let at-is-major = c .before .before .before in
+    let start = at-is-major .before .before in
+    let a = start .args in
+    let kind : isMajor (a .n + a .d) ≡ a .major = sym (at-is-major .is-major .ensures) ∙ c .before .if2 .taken ∙ sym (c .if3 .taken) in
     cc (follows-right (a .n) (a .d) (a .gap) (a .major) (omega arith) kind)
 
 returns-3 : tie.Need-returns-3
 returns-3 c =
-    let a = c .before .before .before .before .before .args in
-    let kind : isMajor (a .n + a .d) ≡ not (a .major) = sym (c .before .before .before .is-major .ensures) ∙ c .before .if2 .taken ∙ sym (ap not (c .if3 .left)) in
+    let at-is-major = c .before .before .before in
+    let start = at-is-major .before .before in
+    let a = start .args in
+    let kind : isMajor (a .n + a .d) ≡ not (a .major) = sym (at-is-major .is-major .ensures) ∙ c .before .if2 .taken ∙ sym
+    (ap not (c .if3 .left)) in
     cc (follows-wrong (a .n) (a .d) (a .gap) (a .major) (omega arith) kind)
 
 returns-4 : tie.Need-returns-4
 returns-4 c =
-    let a = c .before .before .before .before .before .args in
-    let kind : isMajor (a .n + a .d) ≡ not (a .major) = sym (c .before .before .before .is-major .ensures) ∙ c .before .if2 .left ∙ sym (ap not (c .if4 .taken)) in
+    let at-is-major = c .before .before .before in
+    let start = at-is-major .before .before in
+    let a = start .args in
+    let kind : isMajor (a .n + a .d) ≡ not (a .major) = sym (at-is-major .is-major .ensures) ∙ c .before .if2 .left ∙ sym
+    (ap not (c .if4 .taken)) in
     cc (follows-wrong (a .n) (a .d) (a .gap) (a .major) (omega arith) kind)
 
 returns-5 : tie.Need-returns-5
 returns-5 c =
-    let a = c .before .before .before .before .before .args in
-    let kind : isMajor (a .n + a .d) ≡ a .major = sym (c .before .before .before .is-major .ensures) ∙ c .before .if2 .left ∙ sym (c .if4 .left) in
+    let at-is-major = c .before .before .before in
+    let start = at-is-major .before .before in
+    let a = start .args in
+    let kind : isMajor (a .n + a .d) ≡ a .major = sym (at-is-major .is-major .ensures) ∙ c .before .if2 .left ∙ sym (c .if4 .left) in
     cc (follows-right (a .n) (a .d) (a .gap) (a .major) (omega arith) kind)
 
 pub following-spec : {M : Type 1} → statement M

@@ -9,27 +9,41 @@ use Rattle.feed.proofs.call.major_in.Statement.{statement}
 use Rattle.feed.proofs.call.major_in.Tie as tie
 
 major-of-requires : tie.Need-major-of-requires
-major-of-requires c κs = found-held majorLength (c .before .before .before .args .at) (c .before .before .before .args .held) (c .before .before .before .args .b .now) (c .before .before .before .args .piece .now) (c .before .before .before .pre) (c .if1 .taken)
+major-of-requires c κs =
+    let start = c .before .before .before in
+    found-held majorLength (start .args .at) (start .args .held) (start .args .b .now) (start .args .piece .now) (start .pre)
+    (c .if1 .taken)
 
 sub-major-of : tie.Need-sub-major-of
-sub-major-of c = found-at majorLength (c .before .before .before .args .at) (c .before .before .before .args .held) (c .before .before .before .args .b .now) (c .before .before .before .args .piece .now) (c .before .before .before .pre) (c .if1 .left) (omega arith)
+sub-major-of c =
+    let start = c .before .before .before in
+    found-at majorLength (start .args .at) (start .args .held) (start .args .b .now) (start .args .piece .now) (start .pre) (c .if1 .left)
+    (omega arith)
 
 part-major-of-start : tie.Need-part-major-of-start
-part-major-of-start c = found-at majorLength (c .before .before .before .args .at) (c .before .before .before .args .held) (c .before .before .before .args .b .now) (c .before .before .before .args .piece .now) (c .before .before .before .pre) (c .if1 .left) (omega arith)
+part-major-of-start c =
+    let start = c .before .before .before in
+    found-at majorLength (start .args .at) (start .args .held) (start .args .b .now) (start .args .piece .now) (start .pre) (c .if1 .left)
+    (omega arith)
 
 part-major-of-end : tie.Need-part-major-of-end
 part-major-of-end c = search needs
 
 major-of-requires-2 : tie.Need-major-of-requires-2
 major-of-requires-2 c κs =
+    let start = c .before .before .before .before in
     rw rest-whole
-    (found-free majorLength (c .before .before .before .before .args .at) (c .before .before .before .before .args .held) (c .before .before .before .before .args .b .now) (c .before .before .before .before .args .piece .now) (c .before .before .before .before .pre) (c .before .if1 .left))
+    (found-free majorLength (start .args .at) (start .args .held) (start .args .b .now) (start .args .piece .now) (start .pre)
+    (c .before .if1 .left))
 
 returns : tie.Need-returns
 returns c = rw (c .before .if1 .taken) (c .major-of .ensures)
 
 returns-2 : tie.Need-returns-2
-returns-2 c = rw (c .before .before .if1 .left) (c .major-of2 .ensures ∙ ap majorOf (rest-whole (c .before .before .before .before .before .args .at) (c .before .before .before .before .before .args .piece .now)))
+returns-2 c =
+    let at-if1 = c .before .before in
+    let start = at-if1 .before .before .before in
+    rw (at-if1 .if1 .left) (c .major-of2 .ensures ∙ ap majorOf (rest-whole (start .args .at) (start .args .piece .now)))
 
 pub major-in-spec : {M : Type 1} → statement M
 major-in-spec =

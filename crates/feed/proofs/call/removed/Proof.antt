@@ -18,25 +18,41 @@ slice-relend-prefix-shift : tie.Need-slice-relend-prefix-shift
 slice-relend-prefix-shift c = search needs
 
 slice-aggregate-shift : tie.Need-slice-aggregate-shift
-slice-aggregate-shift c = sym (length-take-le (c .before .before .before .before .args .count) (c .before .before .before .before .args .b .now) (c .before .before .before .before .pre .0))
+slice-aggregate-shift c =
+    let start = c .before .before .before .before in
+    sym (length-take-le (start .args .count) (start .args .b .now) (start .pre .0))
 
 shift-requires : tie.Need-shift-requires
-shift-requires c κs = rw (length-take-le (c .before .before .before .before .args .count) (c .before .before .before .before .args .b .now) (c .before .before .before .before .pre .0), c .before .length-of .ensures) (c .before .before .before .before .pre .1 (c .before .before .if1 .taken))
+shift-requires c κs =
+    let at-if1 = c .before .before in
+    let start = at-if1 .before .before in
+    rw (length-take-le (start .args .count) (start .args .b .now) (start .pre .0), c .before .length-of .ensures)
+    (start .pre .1 (at-if1 .if1 .taken))
 
 sub-result : tie.Need-sub-result
-sub-result c = rw (c .before .before .before .before .length-of .ensures) (c .before .before .before .before .before .before .before .pre .1 (c .before .before .before .before .before .if1 .taken))
+sub-result c =
+    let at-length-of = c .before .before .before .before in
+    let at-if1 = at-length-of .before in
+    let start = at-if1 .before .before in
+    rw (at-length-of .length-of .ensures) (start .pre .1 (at-if1 .if1 .taken))
 
 same-length : tie.Need-same-length
 same-length c = search needs
 
 returns : tie.Need-returns
 returns c =
-    let a = c .before .before .before .before .before .before .before .args in
-    let n : c .before .before .before .before .length-of .result ≡ lengthOf (a .kind) = c .before .before .before .before .length-of .ensures in
-    let s : c .before .before .shift .last .0 ≡ drop (c .before .before .before .before .length-of .result) (take (a .count) (a .b .now)) ++ replicate (c .before .before .before .before .length-of .result) 0 =
-    c .before .before .shift .ensures in
-    let t : c .before .before .shift .last .0 ≡ drop (lengthOf (a .kind)) (take (a .count) (a .b .now)) ++ replicate (lengthOf (a .kind)) 0 = rw n at s in
-    rw (c .before .before .before .before .before .if1 .taken) (
+    let at-shift = c .before .before in
+    let at-length-of = at-shift .before .before in
+    let at-if1 = at-length-of .before in
+    let start = at-if1 .before .before in
+    let a = start .args in
+    let n : at-length-of .length-of .result ≡ lengthOf (a .kind) = at-length-of .length-of .ensures in
+    let s : at-shift .shift .last .0 ≡ drop (at-length-of .length-of .result) (take (a .count) (a .b .now)) ++ replicate
+    (at-length-of .length-of .result) 0 =
+    at-shift .shift .ensures in
+    let t : at-shift .shift .last .0 ≡ drop (lengthOf (a .kind)) (take (a .count) (a .b .now)) ++ replicate (lengthOf (a .kind)) 0 = rw n
+    at s in
+    rw (at-if1 .if1 .taken) (
       ap (λ (k : ℕ). a .count - k) n,
       ap (λ (l : List ℕ). l ++ drop (a .count) (a .b .now)) t,
     )

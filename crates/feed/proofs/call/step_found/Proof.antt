@@ -32,9 +32,11 @@ minor-taken-requires c κs = search needs
 
 major-in-requires : tie.Need-major-in-requires
 major-in-requires c κs =
-    let a = c .before .before .before .before .before .before .before .before .before .before .args in
-    let m : majorOfKinds (a .kind) ≡ true = sym (c .before .before .before .before .before .before .is-major .ensures) ∙ c .if1 .taken in
-    major-fits (a .kind) (foundIn (a .held) (a .at) (a .b .now) (a .piece .now)) m (c .before .before .before .before .before .before .before .before .before .before .pre .1)
+    let at-is-major = c .before .before .before .before .before .before in
+    let start = at-is-major .before .before .before .before in
+    let a = start .args in
+    let m : majorOfKinds (a .kind) ≡ true = sym (at-is-major .is-major .ensures) ∙ c .if1 .taken in
+    major-fits (a .kind) (foundIn (a .held) (a .at) (a .b .now) (a .piece .now)) m (start .pre .1)
 
 major-taken-requires : tie.Need-major-taken-requires
 major-taken-requires c κs = search needs
@@ -44,34 +46,51 @@ enum-known-v-2 c = search needs
 
 returns : tie.Need-returns
 returns c =
-    let a = c .before .before .before .before .before .before .before .before .before .before .before .before .args in
+    let at-if1 = c .before .before in
+    let at-minor-taken = at-if1 .before in
+    let at-v = at-minor-taken .before .before in
+    let at-judged = at-v .before .before in
+    let at-is-major = at-judged .before in
+    let at-minor-in = at-is-major .before in
+    let start = at-minor-in .before .before .before in
+    let a = start .args in
     let l : List ℕ = foundIn (a .held) (a .at) (a .b .now) (a .piece .now) in
-    let r : c .before .before .before .before .before .before .before .before .before .minor-in .result ≡ minorOf l = c .before .before .before .before .before .before .before .before .before .minor-in .ensures in
-    let m : c .before .before .before .before .before .before .before .before .is-major .result ≡ majorOfKinds (a .kind) = c .before .before .before .before .before .before .before .before .is-major .ensures in
-    let e : judged (a .hall .n) ((minorOf l) .wire) (majorOfKinds (a .kind)) ≡ Takes (c .before .before .before .before .before .v .given .0 .0) =
-    rw (← r, ← m) (sym (c .before .before .before .before .before .before .before .judged .ensures) ∙ c .before .before .before .before .before .v .given .1) in
-    ap (steppedTo Taken) (c .major-taken .ensures ∙ ap₂ majorTaken (c .before .major-in .ensures) (c .before .before .before .minor-taken .ensures ∙ ap (λ (x : Minor). minorTaken x (c .before .before .before .before .before .v .given .0 .0) (a .hall)) r))
-    ∙ step-major (a .kind) l (a .hall) (c .before .before .before .before .before .v .given .0 .0) (sym m ∙ c .before .before .if1 .taken) e
+    let r : at-minor-in .minor-in .result ≡ minorOf l = at-minor-in .minor-in .ensures in
+    let m : at-is-major .is-major .result ≡ majorOfKinds (a .kind) = at-is-major .is-major .ensures in
+    let e : judged (a .hall .n) ((minorOf l) .wire) (majorOfKinds (a .kind)) ≡ Takes (at-v .v .given .0 .0) =
+    rw (← r, ← m) (sym (at-judged .judged .ensures) ∙ at-v .v .given .1) in
+    ap (steppedTo Taken) (c .major-taken .ensures ∙ ap₂ majorTaken (c .before .major-in .ensures)
+    (at-minor-taken .minor-taken .ensures ∙ ap (λ (x : Minor). minorTaken x (at-v .v .given .0 .0) (a .hall)) r))
+    ∙ step-major (a .kind) l (a .hall) (at-v .v .given .0 .0) (sym m ∙ at-if1 .if1 .taken) e
 
 returns-2 : tie.Need-returns-2
 returns-2 c =
-    let a = c .before .before .before .before .before .before .before .before .before .before .args in
+    let at-v = c .before .before .before in
+    let at-judged = at-v .before .before in
+    let at-is-major = at-judged .before in
+    let at-minor-in = at-is-major .before in
+    let start = at-minor-in .before .before .before in
+    let a = start .args in
     let l : List ℕ = foundIn (a .held) (a .at) (a .b .now) (a .piece .now) in
-    let r : c .before .before .before .before .before .before .before .minor-in .result ≡ minorOf l = c .before .before .before .before .before .before .before .minor-in .ensures in
-    let m : c .before .before .before .before .before .before .is-major .result ≡ majorOfKinds (a .kind) = c .before .before .before .before .before .before .is-major .ensures in
-    let e : judged (a .hall .n) ((minorOf l) .wire) (majorOfKinds (a .kind)) ≡ Takes (c .before .before .before .v .given .0 .0) =
-    rw (← r, ← m) (sym (c .before .before .before .before .before .judged .ensures) ∙ c .before .before .before .v .given .1) in
-    ap (steppedTo Taken) (c .before .minor-taken .ensures ∙ ap (λ (x : Minor). minorTaken x (c .before .before .before .v .given .0 .0) (a .hall)) r)
-    ∙ step-minor (a .kind) l (a .hall) (c .before .before .before .v .given .0 .0) (sym m ∙ c .if1 .left) e
+    let r : at-minor-in .minor-in .result ≡ minorOf l = at-minor-in .minor-in .ensures in
+    let m : at-is-major .is-major .result ≡ majorOfKinds (a .kind) = at-is-major .is-major .ensures in
+    let e : judged (a .hall .n) ((minorOf l) .wire) (majorOfKinds (a .kind)) ≡ Takes (at-v .v .given .0 .0) =
+    rw (← r, ← m) (sym (at-judged .judged .ensures) ∙ at-v .v .given .1) in
+    ap (steppedTo Taken) (c .before .minor-taken .ensures ∙ ap (λ (x : Minor). minorTaken x (at-v .v .given .0 .0) (a .hall)) r)
+    ∙ step-minor (a .kind) l (a .hall) (at-v .v .given .0 .0) (sym m ∙ c .if1 .left) e
 
 returns-3 : tie.Need-returns-3
 returns-3 c =
-    let a = c .before .before .before .before .before .before .before .before .args in
+    let at-judged = c .before .before .before in
+    let at-is-major = at-judged .before in
+    let at-minor-in = at-is-major .before in
+    let start = at-minor-in .before .before .before in
+    let a = start .args in
     let l : List ℕ = foundIn (a .held) (a .at) (a .b .now) (a .piece .now) in
-    let r : c .before .before .before .before .before .minor-in .result ≡ minorOf l = c .before .before .before .before .before .minor-in .ensures in
-    let m : c .before .before .before .before .is-major .result ≡ majorOfKinds (a .kind) = c .before .before .before .before .is-major .ensures in
+    let r : at-minor-in .minor-in .result ≡ minorOf l = at-minor-in .minor-in .ensures in
+    let m : at-is-major .is-major .result ≡ majorOfKinds (a .kind) = at-is-major .is-major .ensures in
     let e : judged (a .hall .n) ((minorOf l) .wire) (majorOfKinds (a .kind)) ≡ Refuses (c .before .v2 .given .0 .0) =
-    rw (← r, ← m) (sym (c .before .before .before .judged .ensures) ∙ c .before .v2 .given .1) in
+    rw (← r, ← m) (sym (at-judged .judged .ensures) ∙ c .before .v2 .given .1) in
     step-refused (a .kind) l (a .hall) (c .before .v2 .given .0 .0) e
 
 pub step-found-spec : {M : Type 1} → statement M

@@ -22,30 +22,47 @@ same-length c = search needs
 
 returns : tie.Need-returns
 returns c =
-    let a = c .before .before .before .before .before .before .before .before .before .args in
+    let at-find = c .before .before .before .before in
+    let start = at-find .before .before .before .before .before in
+    let a = start .args in
     let h : List ℕ = take (a .count) (a .b .now) in
-    let short : length h ≤ mostHeld = taken-short (a .count) (a .b .now) (c .before .before .before .before .before .before .before .before .before .pre .1 .0) in
-    let found = c .before .before .before .before .find .ensures in
-    turn-none (a .hall) h (a .piece .now) (a .out .now) (a .from) (c .before .before .before .before .find .result) (c .before .before .before .before .find .last .0) short (c .before .before .before .before .before .before .before .before .before .pre .1 .2) found
-    (length-none (c .before .before .before .before .find .result .kind) (sym (c .before .length-of .ensures) ∙ c .if1 .taken))
+    let short : length h ≤ mostHeld = taken-short (a .count) (a .b .now) (start .pre .1 .0) in
+    let found = at-find .find .ensures in
+    turn-none (a .hall) h (a .piece .now) (a .out .now) (a .from) (at-find .find .result) (at-find .find .last .0) short
+    (start .pre .1 .2) found
+    (length-none (at-find .find .result .kind) (sym (c .before .length-of .ensures) ∙ c .if1 .taken))
 
 step-found-requires : tie.Need-step-found-requires
 step-found-requires c κs =
-    let a = c .before .before .before .before .before .before .before .before .before .before .args in
+    let at-length-of = c .before .before in
+    let at-find = at-length-of .before .before .before in
+    let start = at-find .before .before .before .before .before in
+    let a = start .args in
     let h : List ℕ = take (a .count) (a .b .now) in
-    let short : length h ≤ mostHeld = taken-short (a .count) (a .b .now) (c .before .before .before .before .before .before .before .before .before .before .pre .1 .0) in
-    let found = c .before .before .before .before .before .find .ensures in
-    let real = length-real (c .before .before .before .before .before .find .result .kind) (λ q. c .before .if1 .left (c .before .before .length-of .ensures ∙ q)) in
-    (omega (arith, real-long (c .before .before .before .before .before .find .result .kind) real), found-fits (a .hall) h (a .piece .now) (a .out .now) (a .from) (c .before .before .before .before .before .find .result) (c .before .before .before .before .before .find .last .0) short (c .before .before .before .before .before .before .before .before .before .before .pre .1 .2) found real)
+    let short : length h ≤ mostHeld = taken-short (a .count) (a .b .now) (start .pre .1 .0) in
+    let found = at-find .find .ensures in
+    let real = length-real (at-find .find .result .kind) (λ q. c .before .if1 .left (at-length-of .length-of .ensures ∙ q)) in (
+      omega (arith, real-long (at-find .find .result .kind) real),
+      found-fits (a .hall) h (a .piece .now) (a .out .now) (a .from)
+          (at-find .find .result) (at-find .find .last .0) short (start .pre .1 .2) found real,
+    )
 
 removed-requires : tie.Need-removed-requires
 removed-requires c κs =
-    let a = c .before .before .before .before .before .before .before .before .before .before .before .before .args in
+    let at-if1 = c .before .before .before in
+    let at-length-of = at-if1 .before in
+    let at-find = at-length-of .before .before .before in
+    let start = at-find .before .before .before .before .before in
+    let a = start .args in
     let h : List ℕ = take (a .count) (a .b .now) in
-    let short : length h ≤ mostHeld = taken-short (a .count) (a .b .now) (c .before .before .before .before .before .before .before .before .before .before .before .before .pre .1 .0) in
-    let found = c .before .before .before .before .before .before .before .find .ensures in
-    let real = length-real (c .before .before .before .before .before .before .before .find .result .kind) (λ q. c .before .before .before .if1 .left (c .before .before .before .before .length-of .ensures ∙ q)) in
-    (count-fits (a .hall) h (a .piece .now) (a .out .now) (a .from) (c .before .before .before .before .before .before .before .find .result) (c .before .before .before .before .before .before .before .find .last .0) short (c .before .before .before .before .before .before .before .before .before .before .before .before .pre .1 .2) found real, held-fits (a .hall) h (a .piece .now) (a .out .now) (a .from) (c .before .before .before .before .before .before .before .find .result) (c .before .before .before .before .before .before .before .find .last .0) short (c .before .before .before .before .before .before .before .before .before .before .before .before .pre .1 .2) found real)
+    let short : length h ≤ mostHeld = taken-short (a .count) (a .b .now) (start .pre .1 .0) in
+    let found = at-find .find .ensures in
+    let real = length-real (at-find .find .result .kind) (λ q. at-if1 .if1 .left (at-length-of .length-of .ensures ∙ q)) in (
+      count-fits (a .hall) h (a .piece .now) (a .out .now) (a .from) (at-find .find .result) (at-find .find .last .0) short
+          (start .pre .1 .2) found real,
+      held-fits (a .hall) h (a .piece .now) (a .out .now) (a .from) (at-find .find .result)
+          (at-find .find .last .0) short (start .pre .1 .2) found real,
+    )
 
 write-report-requires : tie.Need-write-report-requires
 write-report-requires c κs = search needs
@@ -58,14 +75,24 @@ same-length-3 c = search needs
 
 returns-2 : tie.Need-returns-2
 returns-2 c =
-    let a = c .before .before .before .before .before .before .before .before .before .before .before .before .before .before .before .before .before .before .before .before .args in
+    let at-write-report = c .before .before in
+    let at-removed = at-write-report .before .before .before .before .before in
+    let at-step-found = at-removed .before .before in
+    let at-if1 = at-step-found .before .before in
+    let at-length-of = at-if1 .before in
+    let at-find = at-length-of .before .before .before in
+    let start = at-find .before .before .before .before .before in
+    let a = start .args in
     let h : List ℕ = take (a .count) (a .b .now) in
-    let short : length h ≤ mostHeld = taken-short (a .count) (a .b .now) (c .before .before .before .before .before .before .before .before .before .before .before .before .before .before .before .before .before .before .before .before .pre .1 .0) in
-    let found = c .before .before .before .before .before .before .before .before .before .before .before .before .before .before .before .find .ensures in
-    let real = length-real (c .before .before .before .before .before .before .before .before .before .before .before .before .before .before .before .find .result .kind) (λ q. c .before .before .before .before .before .before .before .before .before .before .before .if1 .left (c .before .before .before .before .before .before .before .before .before .before .before .before .length-of .ensures ∙ q)) in
-    turn-some (a .hall) h (a .piece .now) (a .out .now) (a .from) (c .before .before .before .before .before .before .before .before .before .before .before .before .before .before .before .find .result) (c .before .before .before .before .before .before .before .before .before .before .before .before .before .before .before .find .last .0) short (c .before .before .before .before .before .before .before .before .before .before .before .before .before .before .before .before .before .before .before .before .pre .1 .2) found real
-    (c .before .before .before .before .before .before .before .before .before .step-found .result) (c .before .before .before .before .before .before .before .removed .result) (c .before .before .before .before .before .before .before .removed .last .0) (c .before .before .write-report .last .0)
-    (c .before .before .before .before .before .before .before .before .before .step-found .ensures) (c .before .before .before .before .before .before .before .removed .ensures .0) (c .before .before .before .before .before .before .before .removed .ensures .1) (c .before .before .write-report .ensures)
+    let short : length h ≤ mostHeld = taken-short (a .count) (a .b .now) (start .pre .1 .0) in
+    let found = at-find .find .ensures in
+    let real = length-real (at-find .find .result .kind) (λ q. at-if1 .if1 .left (at-length-of .length-of .ensures ∙ q)) in
+    turn-some (a .hall) h (a .piece .now) (a .out .now) (a .from) (at-find .find .result) (at-find .find .last .0) short
+    (start .pre .1 .2) found real
+    (at-step-found .step-found .result) (at-removed .removed .result) (at-removed .removed .last .0)
+    (at-write-report .write-report .last .0)
+    (at-step-found .step-found .ensures) (at-removed .removed .ensures .0) (at-removed .removed .ensures .1)
+    (at-write-report .write-report .ensures)
 
 pub turn-spec : {M : Type 1} → statement M
 turn-spec =

@@ -16,7 +16,11 @@ without-requires-3 c κs = search needs
 
 returns : tie.Need-returns
 unfolding manifold
-returns c = rw (c .before .before .before .before .if1 .taken, not-true (c .before .before .before .before .before .args .now) (c .before .before .before .if2 .taken)) (cc)
+returns c =
+    let at-if2 = c .before .before .before in
+    let at-if1 = at-if2 .before in
+    let start = at-if1 .before in
+    rw (at-if1 .if1 .taken, not-true (start .args .now) (at-if2 .if2 .taken)) (cc)
 
 returns-2 : tie.Need-returns-2
 unfolding manifold

@@ -8,7 +8,9 @@ use Rattle.cycle.proofs.string.StringState.gapped.Tie as tie
 
 returns : tie.Need-returns
 unfolding gapped
-returns c = ⊎-elim (λ w. rw (w .0 .taken, c .if2 .taken) (ap (withOn noOn) (w .1))) (λ w. rw (w .0 .left, c .if2 .taken) (ap (withOn noOn) (w .1))) (c .before .if1 .came)
+returns c =
+    ⊎-elim (λ w. rw (w .0 .taken, c .if2 .taken) (ap (withOn noOn) (w .1)))
+    (λ w. rw (w .0 .left, c .if2 .taken) (ap (withOn noOn) (w .1))) (c .before .if1 .came)
 
 returns-2 : tie.Need-returns-2
 unfolding gapped

@@ -17,7 +17,8 @@ abbrev passedAt : List ℕ → ℕ → ℕ → Passed
 passedAt saved fail reenable = record { fail = fail; reenable = reenable; saved = saved }
 
 abbrev Inv-loop : tie.InvT-loop
-Inv-loop self valves words over was saved₀ fail₀ reenable₀ i₀ saved fail reenable i = (i ≤ manifoldCount) × (passedAt saved fail reenable ≡ passed i words was valves (passedAt saved₀ fail₀ reenable₀))
+Inv-loop self valves words over was saved₀ fail₀ reenable₀ i₀ saved fail reenable i = (i ≤ manifoldCount) ×
+    (passedAt saved fail reenable ≡ passed i words was valves (passedAt saved₀ fail₀ reenable₀))
 
 abbrev μ-loop : tie.MeasureT-loop
 μ-loop self valves words over was saved₀ fail₀ reenable₀ i₀ saved fail reenable i = manifoldCount - i

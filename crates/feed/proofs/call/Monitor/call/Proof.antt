@@ -25,10 +25,14 @@ held-count-requires : tie.Need-held-count-requires
 held-count-requires c κs = search needs
 
 sub-clear : tie.Need-sub-clear
-sub-clear c = let held : c .held-count .result ≤ mostHeld = rw (c .held-count .ensures) (held-short (c .before .before .before .before .before .before .args .self .count)) in omega arith
+sub-clear c =
+    let start = c .before .before .before .before .before .before in
+    let held : c .held-count .result ≤ mostHeld = rw (c .held-count .ensures) (held-short (start .args .self .count)) in omega arith
 
 part-b-start : tie.Need-part-b-start
-part-b-start c = let held : c .held-count .result ≤ mostHeld = rw (c .held-count .ensures) (held-short (c .before .before .before .before .before .before .args .self .count)) in omega arith
+part-b-start c =
+    let start = c .before .before .before .before .before .before in
+    let held : c .held-count .result ≤ mostHeld = rw (c .held-count .ensures) (held-short (start .args .self .count)) in omega arith
 
 part-b-end : tie.Need-part-b-end
 part-b-end c = omega (arith, held-long (c .before .before .before .before .before .before))
@@ -37,13 +41,32 @@ clear-requires : tie.Need-clear-requires
 clear-requires c κs = search needs
 
 slice-aggregate-turn : tie.Need-slice-aggregate-turn
-slice-aggregate-turn c = let held : c .before .before .before .before .held-count .result ≤ mostHeld = rw (c .before .before .before .before .held-count .ensures) (held-short (c .before .before .before .before .before .before .before .before .before .before .args .self .count)) in sym (again-long (c .before .before .before .before .before .before .before .before .before .before .args .self .held) (c .before .before .clear .last .0) (c .before .before .before .before .held-count .result) (615 - c .before .before .before .before .held-count .result) (held-long (c .before .before .before .before .before .before .before .before .before .before)) (omega (arith, held)) (c .before .before .clear .ensures))
+slice-aggregate-turn c =
+    let at-clear = c .before .before in
+    let at-held-count = at-clear .before .before in
+    let start = at-held-count .before .before .before .before .before .before in
+    let held : at-held-count .held-count .result ≤ mostHeld = rw (at-held-count .held-count .ensures)
+    (held-short (start .args .self .count)) in sym
+    (again-long (start .args .self .held) (at-clear .clear .last .0) (at-held-count .held-count .result)
+    (615 - at-held-count .held-count .result) (held-long (start)) (omega (arith, held)) (at-clear .clear .ensures))
 
 turn-requires : tie.Need-turn-requires
 turn-requires c κs =
-    let held : c .before .before .before .before .before .held-count .result ≤ mostHeld = rw (c .before .before .before .before .before .held-count .ensures) (held-short (c .before .before .before .before .before .before .before .before .before .before .before .args .self .count)) in (
-      again-long (c .before .before .before .before .before .before .before .before .before .before .before .args .self .held) (c .before .before .before .clear .last .0) (c .before .before .before .before .before .held-count .result) (615 - c .before .before .before .before .before .held-count .result) (held-long (c .before .before .before .before .before .before .before .before .before .before .before)) (omega (arith, held)) (c .before .before .before .clear .ensures),
-      (held, again-store (c .before .before .before .before .before .before .before .before .before .before .before .args .self .held) (c .before .before .before .clear .last .0) (c .before .before .before .before .before .held-count .result) (615 - c .before .before .before .before .before .held-count .result) (held-long (c .before .before .before .before .before .before .before .before .before .before .before)) (omega (arith, held)) (c .before .before .before .clear .ensures), omega arith, c .before .before .before .before .before .before .before .before .if1 .left),
+    let at-clear = c .before .before .before in
+    let at-held-count = at-clear .before .before in
+    let at-if1 = at-held-count .before .before .before in
+    let start = at-if1 .before .before .before in
+    let held : at-held-count .held-count .result ≤ mostHeld = rw (at-held-count .held-count .ensures)
+    (held-short (start .args .self .count)) in (
+      again-long (start .args .self .held) (at-clear .clear .last .0) (at-held-count .held-count .result)
+          (615 - at-held-count .held-count .result) (held-long (start)) (omega (arith, held)) (at-clear .clear .ensures),
+      (
+        held,
+        again-store (start .args .self .held) (at-clear .clear .last .0) (at-held-count .held-count .result)
+            (615 - at-held-count .held-count .result) (held-long (start)) (omega (arith, held)) (at-clear .clear .ensures),
+        omega arith,
+        at-if1 .if1 .left,
+      ),
     )
 
 same-length : tie.Need-same-length
@@ -51,16 +74,28 @@ same-length c = search needs
 
 returns-2 : tie.Need-returns-2
 returns-2 c =
-    let a = c .before .before .before .before .before .before .before .before .before .before .before .before .before .before .before .before .args in
-    let held : c .before .before .before .before .before .before .before .before .before .before .held-count .result ≤ mostHeld = rw (c .before .before .before .before .before .before .before .before .before .before .held-count .ensures) (held-short (c .before .before .before .before .before .before .before .before .before .before .before .before .before .before .before .before .args .self .count)) in
-    let same : take (c .before .before .before .before .before .before .before .before .before .before .held-count .result) (putMid (c .before .before .before .before .before .before .before .before .before .before .held-count .result) (615 - c .before .before .before .before .before .before .before .before .before .before .held-count .result) (a .self .held) (c .before .before .before .before .before .before .before .before .clear .last .0)) ≡ holds (a .self) =
-    again-take (c .before .before .before .before .before .before .before .before .before .before .before .before .before .before .before .before .args .self .held) (c .before .before .before .before .before .before .before .before .clear .last .0) (c .before .before .before .before .before .before .before .before .before .before .held-count .result) (615 - c .before .before .before .before .before .before .before .before .before .before .held-count .result) (held-long (c .before .before .before .before .before .before .before .before .before .before .before .before .before .before .before .before)) (omega (arith, held)) (c .before .before .before .before .before .before .before .before .clear .ensures)
-    ∙ ap (λ (k : ℕ). take k (a .self .held)) (c .before .before .before .before .before .before .before .before .before .before .held-count .ensures) in
-    let e : call (a .self) (a .piece .now) (a .out .now) ≡ called (holding (a .self .hall) (take (c .before .before .before .before .before .before .before .before .before .before .held-count .result) (putMid (c .before .before .before .before .before .before .before .before .before .before .held-count .result) (615 - c .before .before .before .before .before .before .before .before .before .before .held-count .result) (a .self .held) (c .before .before .before .before .before .before .before .before .clear .last .0)))) (a .piece .now) (a .out .now) =
-    call-called (a .self) (a .piece .now) (a .out .now) (c .before .before .before .before .before .before .before .before .before .before .before .before .before .if1 .left)
+    let at-turn = c .before .before .before .before in
+    let at-clear = at-turn .before .before .before .before in
+    let at-held-count = at-clear .before .before in
+    let at-if1 = at-held-count .before .before .before in
+    let start = at-if1 .before .before .before in
+    let a = start .args in
+    let held : at-held-count .held-count .result ≤ mostHeld = rw (at-held-count .held-count .ensures)
+    (held-short (start .args .self .count)) in
+    let same : take (at-held-count .held-count .result)
+    (putMid (at-held-count .held-count .result) (615 - at-held-count .held-count .result) (a .self .held) (at-clear .clear .last .0)) ≡
+    holds (a .self) =
+    again-take (start .args .self .held) (at-clear .clear .last .0) (at-held-count .held-count .result)
+    (615 - at-held-count .held-count .result) (held-long (start)) (omega (arith, held)) (at-clear .clear .ensures)
+    ∙ ap (λ (k : ℕ). take k (a .self .held)) (at-held-count .held-count .ensures) in
+    let e : call (a .self) (a .piece .now) (a .out .now) ≡ called
+    (holding (a .self .hall) (take (at-held-count .held-count .result)
+    (putMid (at-held-count .held-count .result) (615 - at-held-count .held-count .result) (a .self .held) (at-clear .clear .last .0))))
+    (a .piece .now) (a .out .now) =
+    call-called (a .self) (a .piece .now) (a .out .now) (at-if1 .if1 .left)
     ∙ sym (called-in-order (a .self) _ (a .piece .now) (a .out .now) same) in
-    let t = c .before .before .before .before .turn .ensures in
-    rw e (turned-outcome _ (c .before .before .before .before .turn .result) _ _ t, t .outbox)
+    let t = at-turn .turn .ensures in
+    rw e (turned-outcome _ (at-turn .turn .result) _ _ t, t .outbox)
 
 pub call-spec : {M : Type 1} → statement M
 call-spec =

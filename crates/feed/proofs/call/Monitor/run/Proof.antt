@@ -21,7 +21,8 @@ use Rattle.feed.proofs.call.Monitor.run.Statement.{statement}
 use Rattle.feed.proofs.call.Monitor.run.Tie as tie
 
 abbrev Inv-loop : tie.InvT-loop
-Inv-loop piece out₀ hall₀ b₀ count₀ used₀ written₀ out hall b count used written = Loops (monitorAt hall₀ b₀ count₀) piece out₀ hall b count used written out
+Inv-loop piece out₀ hall₀ b₀ count₀ used₀ written₀ out hall b count used written = Loops (monitorAt hall₀ b₀ count₀) piece out₀ hall b
+    count used written out
 
 abbrev μ-loop : tie.MeasureT-loop
 μ-loop piece out₀ hall₀ b₀ count₀ used₀ written₀ out hall b count used written = length out₀ - written
@@ -31,16 +32,22 @@ held-long : (c : tie.Start Inv-loop μ-loop) → length (c .args .self .held) �
 held-long c = search needs
 
 returns : tie.Need-returns Inv-loop μ-loop
-returns c = no-room (c .before .before .before .args .self) (c .before .before .before .args .piece .now) (c .before .before .before .args .out .now) (c .if1 .taken)
+returns c =
+    let start = c .before .before .before in
+    no-room (start .args .self) (start .args .piece .now) (start .args .out .now) (c .if1 .taken)
 
 held-count-requires : tie.Need-held-count-requires Inv-loop μ-loop
 held-count-requires c κs = search needs
 
 sub-clear : tie.Need-sub-clear Inv-loop μ-loop
-sub-clear c = let held : c .held-count .result ≤ mostHeld = rw (c .held-count .ensures) (held-short (c .before .before .before .before .before .before .args .self .count)) in omega arith
+sub-clear c =
+    let start = c .before .before .before .before .before .before in
+    let held : c .held-count .result ≤ mostHeld = rw (c .held-count .ensures) (held-short (start .args .self .count)) in omega arith
 
 part-b-start : tie.Need-part-b-start Inv-loop μ-loop
-part-b-start c = let held : c .held-count .result ≤ mostHeld = rw (c .held-count .ensures) (held-short (c .before .before .before .before .before .before .args .self .count)) in omega arith
+part-b-start c =
+    let start = c .before .before .before .before .before .before in
+    let held : c .held-count .result ≤ mostHeld = rw (c .held-count .ensures) (held-short (start .args .self .count)) in omega arith
 
 part-b-end : tie.Need-part-b-end Inv-loop μ-loop
 part-b-end c = omega (arith, held-long (c .before .before .before .before .before .before))
@@ -52,67 +59,181 @@ clear-requires c κs = search needs
 same-run : (c : tie.After-b3 Inv-loop μ-loop)
     → runs (length (c .before .before .before .before .before .before .before .before .before .args .out .now) / reportLength)
     (monitorAt (c .before .before .before .before .before .before .before .before .before .args .self .hall)
-    (putMid (c .before .before .before .held-count .result) (615 - c .before .before .before .held-count .result) (c .before .before .before .before .before .before .before .before .before .args .self .held) (c .before .clear .last .0))
+    (putMid (c .before .before .before .held-count .result) (615 - c .before .before .before .held-count .result)
+    (c .before .before .before .before .before .before .before .before .before .args .self .held) (c .before .clear .last .0))
     (c .before .before .before .held-count .result))
     (c .before .before .before .before .before .before .before .before .before .args .piece .now)
-    ≡ runs (length (c .before .before .before .before .before .before .before .before .before .args .out .now) / reportLength) (c .before .before .before .before .before .before .before .before .before .args .self) (c .before .before .before .before .before .before .before .before .before .args .piece .now)
+    ≡ runs (length (c .before .before .before .before .before .before .before .before .before .args .out .now) / reportLength)
+    (c .before .before .before .before .before .before .before .before .before .args .self)
+    (c .before .before .before .before .before .before .before .before .before .args .piece .now)
 same-run c =
-    let held : c .before .before .before .held-count .result ≤ mostHeld = rw (c .before .before .before .held-count .ensures) (held-short (c .before .before .before .before .before .before .before .before .before .args .self .count)) in
-    runs-start (c .before .before .before .before .before .before .before .before .before .args .self) _ (c .before .before .before .held-count .result) (c .before .before .before .before .before .before .before .before .before .args .piece .now) (c .before .before .before .before .before .before .before .before .before .args .out .now) (c .before .before .before .before .before .before .if1 .left)
-    (held-long (c .before .before .before .before .before .before .before .before .before)) (c .before .before .before .held-count .ensures) (stored-again (c .before .before .before .before .before .before .before .before .before .args .self .held) (c .before .clear .last .0) (c .before .before .before .held-count .result) (615 - c .before .before .before .held-count .result) (held-long (c .before .before .before .before .before .before .before .before .before)) (omega (arith, held)) (c .before .clear .ensures))
+    let at-held-count = c .before .before .before in
+    let at-if1 = at-held-count .before .before .before in
+    let start = at-if1 .before .before .before in
+    let held : at-held-count .held-count .result ≤ mostHeld = rw (at-held-count .held-count .ensures)
+    (held-short (start .args .self .count)) in
+    runs-start (start .args .self) _ (at-held-count .held-count .result) (start .args .piece .now) (start .args .out .now)
+    (at-if1 .if1 .left)
+    (held-long (start)) (at-held-count .held-count .ensures)
+    (stored-again (start .args .self .held) (c .before .clear .last .0) (at-held-count .held-count .result)
+    (615 - at-held-count .held-count .result) (held-long (start)) (omega (arith, held)) (c .before .clear .ensures))
 
 loop-holds : tie.Need-loop-holds Inv-loop μ-loop
 loop-holds c =
-    let held : c .before .before .before .held-count .result ≤ mostHeld = rw (c .before .before .before .held-count .ensures) (held-short (c .before .before .before .before .before .before .before .before .before .args .self .count)) in
-    loop-starts (c .before .before .before .before .before .before .before .before .before .args .self .hall) _ (c .before .before .before .before .before .before .before .before .before .args .piece .now) (c .before .before .before .before .before .before .before .before .before .args .out .now) (c .before .before .before .held-count .result)
-    (again-long (c .before .before .before .before .before .before .before .before .before .args .self .held) (c .before .clear .last .0) (c .before .before .before .held-count .result) (615 - c .before .before .before .held-count .result) (held-long (c .before .before .before .before .before .before .before .before .before)) (omega (arith, held)) (c .before .clear .ensures)) held (again-store (c .before .before .before .before .before .before .before .before .before .args .self .held) (c .before .clear .last .0) (c .before .before .before .held-count .result) (615 - c .before .before .before .held-count .result) (held-long (c .before .before .before .before .before .before .before .before .before)) (omega (arith, held)) (c .before .clear .ensures))
+    let at-held-count = c .before .before .before in
+    let start = at-held-count .before .before .before .before .before .before in
+    let held : at-held-count .held-count .result ≤ mostHeld = rw (at-held-count .held-count .ensures)
+    (held-short (start .args .self .count)) in
+    loop-starts (start .args .self .hall) _ (start .args .piece .now) (start .args .out .now) (at-held-count .held-count .result)
+    (again-long (start .args .self .held) (c .before .clear .last .0) (at-held-count .held-count .result)
+    (615 - at-held-count .held-count .result) (held-long (start)) (omega (arith, held)) (c .before .clear .ensures)) held
+    (again-store (start .args .self .held) (c .before .clear .last .0) (at-held-count .held-count .result)
+    (615 - at-held-count .held-count .result) (held-long (start)) (omega (arith, held)) (c .before .clear .ensures))
 
 sub-loop : tie.Need-sub-loop Inv-loop μ-loop
-sub-loop c = omega (arith, out-long _ (c .before .before .before .before .before .before .before .before .before .before .args .piece .now) (c .before .before .before .before .before .before .before .before .before .before .args .out .now) (c .loop .hall) (c .loop .b) (c .loop .count) (c .loop .used) (c .loop .written) (c .loop .out) (c .loop .inv), c .loop .inv .room)
+sub-loop c =
+    let start = c .before .before .before .before .before .before .before .before .before .before in
+    omega (
+      arith,
+      out-long _ (start .args .piece .now) (start .args .out .now) (c .loop .hall) (c .loop .b) (c .loop .count)
+          (c .loop .used) (c .loop .written) (c .loop .out) (c .loop .inv),
+      c .loop .inv .room,
+    )
 
 slice-aggregate-turn : tie.Need-slice-aggregate-turn Inv-loop μ-loop
 slice-aggregate-turn c = sym (c .before .before .loop .inv .long)
 
 sub-turn : tie.Need-sub-turn Inv-loop μ-loop
-sub-turn c = omega (arith, out-long _ (c .before .before .before .before .before .before .before .before .before .before .before .before .args .piece .now) (c .before .before .before .before .before .before .before .before .before .before .before .before .args .out .now) (c .before .before .loop .hall) (c .before .before .loop .b) (c .before .before .loop .count) (c .before .before .loop .used) (c .before .before .loop .written) (c .before .before .loop .out) (c .before .before .loop .inv), c .before .before .loop .inv .room)
+sub-turn c =
+    let at-loop = c .before .before in
+    let start = at-loop .before .before .before .before .before .before .before .before .before .before in
+    omega (
+      arith,
+      out-long _ (start .args .piece .now) (start .args .out .now) (at-loop .loop .hall) (at-loop .loop .b)
+          (at-loop .loop .count) (at-loop .loop .used) (at-loop .loop .written) (at-loop .loop .out) (at-loop .loop .inv),
+      at-loop .loop .inv .room,
+    )
 
 part-turn-start : tie.Need-part-turn-start Inv-loop μ-loop
-part-turn-start c = omega (arith, out-long _ (c .before .before .before .before .before .before .before .before .before .before .before .before .args .piece .now) (c .before .before .before .before .before .before .before .before .before .before .before .before .args .out .now) (c .before .before .loop .hall) (c .before .before .loop .b) (c .before .before .loop .count) (c .before .before .loop .used) (c .before .before .loop .written) (c .before .before .loop .out) (c .before .before .loop .inv), c .before .before .loop .inv .room)
+part-turn-start c =
+    let at-loop = c .before .before in
+    let start = at-loop .before .before .before .before .before .before .before .before .before .before in
+    omega (
+      arith,
+      out-long _ (start .args .piece .now) (start .args .out .now) (at-loop .loop .hall) (at-loop .loop .b)
+          (at-loop .loop .count) (at-loop .loop .used) (at-loop .loop .written) (at-loop .loop .out) (at-loop .loop .inv),
+      at-loop .loop .inv .room,
+    )
 
 part-turn-end : tie.Need-part-turn-end Inv-loop μ-loop
 part-turn-end c = search needs
 
 turn-requires : tie.Need-turn-requires Inv-loop μ-loop
-turn-requires c κs = (c .before .before .before .loop .inv .long, (c .before .before .before .loop .inv .short, c .before .before .before .loop .inv .order, c .before .before .before .loop .inv .within, rw rest-whole (omega (arith, length-drop (c .before .before .before .loop .written) (c .before .before .before .loop .out), c .before .before .loop-test .taken))))
+turn-requires c κs =
+    let at-loop-test = c .before .before in
+    let at-loop = at-loop-test .before in (
+      at-loop .loop .inv .long,
+      (
+        at-loop .loop .inv .short,
+        at-loop .loop .inv .order,
+        at-loop .loop .inv .within,
+        rw rest-whole
+            (omega (arith, length-drop (at-loop .loop .written) (at-loop .loop .out), at-loop-test .loop-test .taken)),
+      ),
+    )
 
 same-length : tie.Need-same-length Inv-loop μ-loop
-same-length c = same-len-mid (c .before .before .before .before .before .before .before .before .before .before .loop .written) (length (c .before .before .before .before .before .before .before .before .before .before .loop .out) - c .before .before .before .before .before .before .before .before .before .before .loop .written) (c .before .before .before .before .before .before .before .before .before .before .loop .out) (c .before .before .before .before .before .before .turn .last .1 .1 .1 .1 .1 .0) (c .before .before .before .before .before .before .turn .kept .1 .1 .1 .1 .1 .0) ∙ out-long _ (c .before .before .before .before .before .before .before .before .before .before .before .before .before .before .before .before .before .before .before .before .args .piece .now) (c .before .before .before .before .before .before .before .before .before .before .before .before .before .before .before .before .before .before .before .before .args .out .now) (c .before .before .before .before .before .before .before .before .before .before .loop .hall) (c .before .before .before .before .before .before .before .before .before .before .loop .b) (c .before .before .before .before .before .before .before .before .before .before .loop .count) (c .before .before .before .before .before .before .before .before .before .before .loop .used) (c .before .before .before .before .before .before .before .before .before .before .loop .written) (c .before .before .before .before .before .before .before .before .before .before .loop .out) (c .before .before .before .before .before .before .before .before .before .before .loop .inv)
+same-length c =
+    let at-turn = c .before .before .before .before .before .before in
+    let at-loop = at-turn .before .before .before .before in
+    let start = at-loop .before .before .before .before .before .before .before .before .before .before in
+    same-len-mid (at-loop .loop .written) (length (at-loop .loop .out) - at-loop .loop .written) (at-loop .loop .out)
+    (at-turn .turn .last .1 .1 .1 .1 .1 .0) (at-turn .turn .kept .1 .1 .1 .1 .1 .0) ∙ out-long _ (start .args .piece .now)
+    (start .args .out .now) (at-loop .loop .hall) (at-loop .loop .b) (at-loop .loop .count) (at-loop .loop .used) (at-loop .loop .written)
+    (at-loop .loop .out) (at-loop .loop .inv)
 
 returns-2 : tie.Need-returns-2 Inv-loop μ-loop
 returns-2 c =
-    let o : List ℕ = c .before .before .before .before .before .before .turn .last .1 .1 .1 .1 .1 .0 in
-    let t = rw rest-whole at (c .before .before .before .before .before .before .turn .ensures) in
-    rw (put-rest (c .before .before .before .before .before .before .before .before .before .before .loop .written) (c .before .before .before .before .before .before .before .before .before .before .loop .out) o (omega (arith, out-long _ (c .before .before .before .before .before .before .before .before .before .before .before .before .before .before .before .before .before .before .before .before .args .piece .now) (c .before .before .before .before .before .before .before .before .before .before .before .before .before .before .before .before .before .before .before .before .args .out .now) (c .before .before .before .before .before .before .before .before .before .before .loop .hall) (c .before .before .before .before .before .before .before .before .before .before .loop .b) (c .before .before .before .before .before .before .before .before .before .before .loop .count) (c .before .before .before .before .before .before .before .before .before .before .loop .used) (c .before .before .before .before .before .before .before .before .before .before .loop .written) (c .before .before .before .before .before .before .before .before .before .before .loop .out) (c .before .before .before .before .before .before .before .before .before .before .loop .inv), c .before .before .before .before .before .before .before .before .before .before .loop .inv .room)), ← same-run (c .before .before .before .before .before .before .before .before .before .before .before))
-    (loop-leaves _ (c .before .before .before .before .before .before .before .before .before .before .before .before .before .before .before .before .before .before .before .before .args .piece .now) (c .before .before .before .before .before .before .before .before .before .before .before .before .before .before .before .before .before .before .before .before .args .out .now) (c .before .before .before .before .before .before .before .before .before .before .loop .hall) (c .before .before .before .before .before .before .before .before .before .before .loop .b) (c .before .before .before .before .before .before .before .before .before .before .loop .count) (c .before .before .before .before .before .before .before .before .before .before .loop .used) (c .before .before .before .before .before .before .before .before .before .before .loop .written) (c .before .before .before .before .before .before .before .before .before .before .loop .out) (c .before .before .before .before .before .before .before .before .before .before .loop .inv) (c .before .before .before .before .before .before .turn .result) (c .before .before .before .before .before .before .turn .last .1 .0) o (c .before .before .before .before .before .before .before .before .before .loop-test .taken) t (not-true (c .before .before .before .before .before .before .turn .result .settled) (c .if2 .taken)))
+    let at-turn = c .before .before .before .before .before .before in
+    let at-loop-test = at-turn .before .before .before in
+    let at-loop = at-loop-test .before in
+    let at-11 = at-loop .before in
+    let start = at-11 .before .before .before .before .before .before .before .before .before in
+    let o : List ℕ = at-turn .turn .last .1 .1 .1 .1 .1 .0 in
+    let t = rw rest-whole at (at-turn .turn .ensures) in
+    rw (
+      put-rest (at-loop .loop .written) (at-loop .loop .out) o
+          (omega (
+            arith,
+            out-long _ (start .args .piece .now) (start .args .out .now) (at-loop .loop .hall) (at-loop .loop .b)
+                (at-loop .loop .count) (at-loop .loop .used) (at-loop .loop .written) (at-loop .loop .out) (at-loop .loop .inv),
+            at-loop .loop .inv .room,
+          )),
+      ← same-run (at-11),
+    )
+    (loop-leaves _ (start .args .piece .now) (start .args .out .now) (at-loop .loop .hall) (at-loop .loop .b) (at-loop .loop .count)
+    (at-loop .loop .used) (at-loop .loop .written) (at-loop .loop .out) (at-loop .loop .inv) (at-turn .turn .result)
+    (at-turn .turn .last .1 .0) o (at-loop-test .loop-test .taken) t (not-true (at-turn .turn .result .settled) (c .if2 .taken)))
 
 add-written : tie.Need-add-written Inv-loop μ-loop
-add-written c = omega (arith, c .before .before .before .before .before .before .before .before .before .before .loop .inv .room, out-long _ (c .before .before .before .before .before .before .before .before .before .before .before .before .before .before .before .before .before .before .before .before .args .piece .now) (c .before .before .before .before .before .before .before .before .before .before .before .before .before .before .before .before .before .before .before .before .args .out .now) (c .before .before .before .before .before .before .before .before .before .before .loop .hall) (c .before .before .before .before .before .before .before .before .before .before .loop .b) (c .before .before .before .before .before .before .before .before .before .before .loop .count) (c .before .before .before .before .before .before .before .before .before .before .loop .used) (c .before .before .before .before .before .before .before .before .before .before .loop .written) (c .before .before .before .before .before .before .before .before .before .before .loop .out) (c .before .before .before .before .before .before .before .before .before .before .loop .inv), c .before .before .before .before .before .before .before .before .before .loop-test .taken, c .before .before .before .before .before .before .before .before .before .before .before .before .before .before .before .before .before .before .before .before .good)
+add-written c =
+    let at-loop-test = c .before .before .before .before .before .before .before .before .before in
+    let at-loop = at-loop-test .before in
+    let start = at-loop .before .before .before .before .before .before .before .before .before .before in
+    omega (
+      arith,
+      at-loop .loop .inv .room,
+      out-long _ (start .args .piece .now) (start .args .out .now) (at-loop .loop .hall)
+          (at-loop .loop .b) (at-loop .loop .count) (at-loop .loop .used) (at-loop .loop .written) (at-loop .loop .out) (at-loop .loop .inv),
+      at-loop-test .loop-test .taken,
+      start .good,
+    )
 
 loop-less : tie.Need-loop-less Inv-loop μ-loop
-loop-less c = omega (arith, c .before .before .before .before .before .before .before .before .before .before .loop .inv .room, out-long _ (c .before .before .before .before .before .before .before .before .before .before .before .before .before .before .before .before .before .before .before .before .args .piece .now) (c .before .before .before .before .before .before .before .before .before .before .before .before .before .before .before .before .before .before .before .before .args .out .now) (c .before .before .before .before .before .before .before .before .before .before .loop .hall) (c .before .before .before .before .before .before .before .before .before .before .loop .b) (c .before .before .before .before .before .before .before .before .before .before .loop .count) (c .before .before .before .before .before .before .before .before .before .before .loop .used) (c .before .before .before .before .before .before .before .before .before .before .loop .written) (c .before .before .before .before .before .before .before .before .before .before .loop .out) (c .before .before .before .before .before .before .before .before .before .before .loop .inv), c .before .before .before .before .before .before .before .before .before .loop-test .taken)
+loop-less c =
+    let at-loop-test = c .before .before .before .before .before .before .before .before .before in
+    let at-loop = at-loop-test .before in
+    let start = at-loop .before .before .before .before .before .before .before .before .before .before in
+    omega (
+      arith,
+      at-loop .loop .inv .room,
+      out-long _ (start .args .piece .now) (start .args .out .now) (at-loop .loop .hall)
+          (at-loop .loop .b) (at-loop .loop .count) (at-loop .loop .used) (at-loop .loop .written) (at-loop .loop .out) (at-loop .loop .inv),
+      at-loop-test .loop-test .taken,
+    )
 
 loop-again : tie.Need-loop-again Inv-loop μ-loop
 loop-again c =
-    let o : List ℕ = c .before .before .before .before .before .before .turn .last .1 .1 .1 .1 .1 .0 in
-    let t = rw rest-whole at (c .before .before .before .before .before .before .turn .ensures) in
-    rw (put-rest (c .before .before .before .before .before .before .before .before .before .before .loop .written) (c .before .before .before .before .before .before .before .before .before .before .loop .out) o (omega (arith, out-long _ (c .before .before .before .before .before .before .before .before .before .before .before .before .before .before .before .before .before .before .before .before .args .piece .now) (c .before .before .before .before .before .before .before .before .before .before .before .before .before .before .before .before .before .before .before .before .args .out .now) (c .before .before .before .before .before .before .before .before .before .before .loop .hall) (c .before .before .before .before .before .before .before .before .before .before .loop .b) (c .before .before .before .before .before .before .before .before .before .before .loop .count) (c .before .before .before .before .before .before .before .before .before .before .loop .used) (c .before .before .before .before .before .before .before .before .before .before .loop .written) (c .before .before .before .before .before .before .before .before .before .before .loop .out) (c .before .before .before .before .before .before .before .before .before .before .loop .inv), c .before .before .before .before .before .before .before .before .before .before .loop .inv .room)))
-    (loop-goes _ (c .before .before .before .before .before .before .before .before .before .before .before .before .before .before .before .before .before .before .before .before .args .piece .now) (c .before .before .before .before .before .before .before .before .before .before .before .before .before .before .before .before .before .before .before .before .args .out .now) (c .before .before .before .before .before .before .before .before .before .before .loop .hall) (c .before .before .before .before .before .before .before .before .before .before .loop .b) (c .before .before .before .before .before .before .before .before .before .before .loop .count) (c .before .before .before .before .before .before .before .before .before .before .loop .used) (c .before .before .before .before .before .before .before .before .before .before .loop .written) (c .before .before .before .before .before .before .before .before .before .before .loop .out) (c .before .before .before .before .before .before .before .before .before .before .loop .inv) (c .before .before .before .before .before .before .turn .result) (c .before .before .before .before .before .before .turn .last .1 .0) o (c .before .before .before .before .before .before .before .before .before .loop-test .taken) t (not-no (c .before .before .before .before .before .before .turn .result .settled) (c .if2 .left)))
+    let at-turn = c .before .before .before .before .before .before in
+    let at-loop-test = at-turn .before .before .before in
+    let at-loop = at-loop-test .before in
+    let start = at-loop .before .before .before .before .before .before .before .before .before .before in
+    let o : List ℕ = at-turn .turn .last .1 .1 .1 .1 .1 .0 in
+    let t = rw rest-whole at (at-turn .turn .ensures) in
+    rw (put-rest (at-loop .loop .written) (at-loop .loop .out) o
+    (omega (
+      arith,
+      out-long _ (start .args .piece .now) (start .args .out .now) (at-loop .loop .hall) (at-loop .loop .b)
+          (at-loop .loop .count) (at-loop .loop .used) (at-loop .loop .written) (at-loop .loop .out) (at-loop .loop .inv),
+      at-loop .loop .inv .room,
+    )))
+    (loop-goes _ (start .args .piece .now) (start .args .out .now) (at-loop .loop .hall) (at-loop .loop .b) (at-loop .loop .count)
+    (at-loop .loop .used) (at-loop .loop .written) (at-loop .loop .out) (at-loop .loop .inv) (at-turn .turn .result)
+    (at-turn .turn .last .1 .0) o (at-loop-test .loop-test .taken) t (not-no (at-turn .turn .result .settled) (c .if2 .left)))
 
 same-length-2 : tie.Need-same-length-2 Inv-loop μ-loop
-same-length-2 c = out-long _ (c .before .before .before .before .before .before .before .before .before .before .before .args .piece .now) (c .before .before .before .before .before .before .before .before .before .before .before .args .out .now) (c .before .loop .hall) (c .before .loop .b) (c .before .loop .count) (c .before .loop .used) (c .before .loop .written) (c .before .loop .out) (c .before .loop .inv)
+same-length-2 c =
+    let start = c .before .before .before .before .before .before .before .before .before .before .before in
+    out-long _ (start .args .piece .now) (start .args .out .now) (c .before .loop .hall) (c .before .loop .b) (c .before .loop .count)
+    (c .before .loop .used) (c .before .loop .written) (c .before .loop .out) (c .before .loop .inv)
 
 returns-3 : tie.Need-returns-3 Inv-loop μ-loop
-returns-3 c = rw (← same-run (c .before .before)) (loop-ends _ (c .before .before .before .before .before .before .before .before .before .before .before .args .piece .now) (c .before .before .before .before .before .before .before .before .before .before .before .args .out .now) (c .before .loop .hall) (c .before .loop .b) (c .before .loop .count) (c .before .loop .used) (c .before .loop .written) (c .before .loop .out) (c .before .loop .inv) (c .loop-test .left))
+returns-3 c =
+    let at-2 = c .before .before in
+    let start = at-2 .before .before .before .before .before .before .before .before .before in
+    rw (← same-run (at-2)) (loop-ends _ (start .args .piece .now) (start .args .out .now) (c .before .loop .hall) (c .before .loop .b)
+    (c .before .loop .count) (c .before .loop .used) (c .before .loop .written) (c .before .loop .out) (c .before .loop .inv)
+    (c .loop-test .left))
 
 pub run-spec : {M : Type 1} → statement M
 run-spec =

@@ -37,7 +37,10 @@ returns c = rw (eq-eqb _ _ (c .before .before .if1 .taken)) (c .start .ensures �
 
 returns-2 : tie.Need-returns-2
 unfolding startedFrom
-returns-2 c = rw (ne-eqb _ _ (c .before .before .if1 .left)) (ap refusedOf (c .fresh .ensures ∙ ap (λ (x : Masks). freshHall (replicate stringCount x)) (c .before .none .ensures)))
+returns-2 c =
+    let at-if1 = c .before .before in
+    rw (ne-eqb _ _ (at-if1 .if1 .left)) (ap refusedOf
+    (c .fresh .ensures ∙ ap (λ (x : Masks). freshHall (replicate stringCount x)) (c .before .none .ensures)))
 
 pub start-from-spec : {M : Type 1} → statement M
 start-from-spec =

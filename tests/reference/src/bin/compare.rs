@@ -1,0 +1,150 @@
+//! `compare WATCH CALLS [--feeds N] [--bytes TOTAL]`: runs two programs over seeded input and
+//! demands every byte of their output to be the reference's.
+
+use reference::feed::{masks_bytes, run, MASKS_LENGTH};
+use reference::generate::input;
+use reference::process::{run_pieces, Running};
+use reference::random::Random;
+use reference::report::REPORT_LENGTH;
+use reference::score::{same, Score};
+use reference::script;
+use reference::tally::Tally;
+use reference::world::refused_masks;
+use std::fs::File;
+use std::process::{ExitCode, Stdio};
+use std::time::{Duration, Instant};
+
+const LIMIT: Duration = Duration::from_secs(30);
+const CALL_INPUTS: u64 = 500;
+const NOISES: u64 = 24;
+
+fn main() -> ExitCode {
+    let mut arguments = std::env::args().skip(1);
+    let (Some(watch), Some(calls), Some((number, bytes))) =
+        (arguments.next(), arguments.next(), amounts(arguments))
+    else {
+        eprintln!("usage: compare WATCH CALLS [--feeds N] [--bytes TOTAL]");
+        return ExitCode::FAILURE;
+    };
+    let begin = Instant::now();
+    let mut score = Score::default();
+    let tally = feeds(&watch, number, bytes, &mut score);
+    let bad_inputs = bad_inputs(&watch, &mut score);
+    let calls = scripts(&calls, &mut score);
+    let seconds = begin.elapsed().as_secs_f64();
+    println!("{tally:?}; {bad_inputs} inputs of noise or bad masks; {calls}; {seconds:.1} s");
+    score.end()
+}
+
+/// How many feeds, and how many bytes in all.
+fn amounts(mut options: impl Iterator<Item = String>) -> Option<(u64, u64)> {
+    let (mut feeds, mut bytes) = (320, 20_000_000);
+    while let Some(name) = options.next() {
+        let place = match name.as_str() {
+            "--feeds" => &mut feeds,
+            "--bytes" => &mut bytes,
+            _ => return None,
+        };
+        *place = options.next()?.parse().ok()?;
+    }
+    (feeds > 0).then_some((feeds, bytes))
+}
+
+/// Seeded nights, each whole from a file or a pipe, every third also in pieces.
+fn feeds(watch: &str, number: u64, bytes: u64, score: &mut Score) -> Tally {
+    let mut tally = Tally::default();
+    let share = (bytes / number) as usize + 1;
+    for seed in 0..number {
+        // Short and long feeds, that come to the wanted total.
+        let size = [share / 2 + 1, share / 2 + 1, share, 2 * share][(seed % 4) as usize];
+        let (bytes, damaged) = input(seed, size);
+        let reports = reports(&bytes);
+        tally.add(bytes.len(), damaged, &reports);
+        let name = format!("feed of seed {seed}, size {size}");
+        if seed % 3 == 0 {
+            let pieces = cut(&bytes, &mut Random(!seed));
+            let output = run_pieces(watch, pieces, LIMIT);
+            score.check(&format!("{name}, in pieces"), same(output, "report", &reports));
+        }
+        let output = match seed % 2 {
+            0 => run_file(watch, &bytes),
+            _ => run_pieces(watch, vec![bytes], LIMIT),
+        };
+        score.check(&format!("{name}, whole"), same(output, "report", &reports));
+    }
+    tally
+}
+
+/// Noise, empty input, short and refused masks.
+fn bad_inputs(watch: &str, score: &mut Score) -> usize {
+    let mut inputs: Vec<(String, Vec<u8>)> = Vec::new();
+    for length in [0, 1, 2, 16, 62, 63, 64] {
+        inputs.push((format!("{length} bytes of masks"), vec![0; length]));
+    }
+    for seed in 0..NOISES {
+        let mut random = Random(1_000_000 + seed);
+        let length = random.index(40_000);
+        inputs.push((format!("noise of seed {seed}"), random.bytes(length)));
+        let junk = [vec![0; MASKS_LENGTH], random.junk(length)].concat();
+        inputs.push((format!("junk of seed {seed}"), junk));
+        let (mut refused, _) = input(seed, 3_000);
+        refused[..MASKS_LENGTH].copy_from_slice(&masks_bytes(&refused_masks(&mut random)));
+        inputs.push((format!("refused masks of seed {seed}"), refused));
+    }
+    for (name, input) in &inputs {
+        let output = run_pieces(watch, vec![input.clone()], LIMIT);
+        score.check(name, same(output, "report", &reports(input)));
+    }
+    inputs.len()
+}
+
+/// Single calls. Gives their number, by what they answered.
+fn scripts(calls: &str, score: &mut Score) -> String {
+    let mut answers = [0; 256];
+    let mut starts = 0;
+    for seed in 0..CALL_INPUTS {
+        let input = script::input(seed);
+        let said = script::play(&input);
+        for words in &said {
+            match words[..] {
+                [_] => starts += 1,
+                _ => answers[usize::from(words[0])] += 1,
+            }
+        }
+        let output = run_pieces(calls, vec![input], LIMIT);
+        score.check(&format!("calls of seed {seed}"), same(output, "start or call", &said));
+    }
+    let all: u64 = answers.iter().sum();
+    format!(
+        "{CALL_INPUTS} inputs of {starts} scripts, {all} calls, answers 0 to 5 {:?}, nothing settled {}",
+        &answers[..6],
+        answers[255]
+    )
+}
+
+fn run_file(program: &str, input: &[u8]) -> Result<Vec<u8>, String> {
+    let path = std::env::temp_dir().join(format!("compare-{}.feed", std::process::id()));
+    let output = std::fs::write(&path, input)
+        .and_then(|()| File::open(&path))
+        .map_err(|error| format!("can't keep the feed: {error}"))
+        .and_then(|file| Running::start(program, Stdio::from(file), true)?.finish(LIMIT));
+    let _ = std::fs::remove_file(&path);
+    output
+}
+
+/// Pieces of random length, tiny ones too.
+fn cut(mut bytes: &[u8], random: &mut Random) -> Vec<Vec<u8>> {
+    let longest = random.pick(&[200, 1_000, 5_000, 20_000]);
+    let mut pieces = Vec::new();
+    while !bytes.is_empty() {
+        let end = random.pick(&[3, longest, longest, longest]);
+        let (piece, rest) = bytes.split_at((1 + random.index(end)).min(bytes.len()));
+        pieces.push(piece.to_vec());
+        bytes = rest;
+    }
+    pieces
+}
+
+fn reports(input: &[u8]) -> Vec<Vec<u8>> {
+    run(input).chunks(REPORT_LENGTH).map(<[u8]>::to_vec).collect()
+}

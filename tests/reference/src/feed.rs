@@ -1,0 +1,46 @@
+//! Runs over whole feeds, as the program does.
+
+use crate::hall::{Masks, NOTHING_SETTLED, TAKEN};
+use crate::monitor::Monitor;
+use crate::report::REPORT_LENGTH;
+
+pub const MASKS_LENGTH: usize = 64;
+
+/// String by string, manifold 0 first, high byte first.
+pub fn masks_from(bytes: &[u8; MASKS_LENGTH]) -> Masks {
+    let mask = |s: usize, i: usize| {
+        let at = 16 * s + 4 * i;
+        u32::from_be_bytes([bytes[at], bytes[at + 1], bytes[at + 2], bytes[at + 3]])
+    };
+    [0, 1, 2, 3].map(|s| [0, 1, 2, 3].map(|i| mask(s, i)))
+}
+
+pub fn masks_bytes(masks: &Masks) -> [u8; MASKS_LENGTH] {
+    let bytes: Vec<u8> = masks.iter().flatten().flat_map(|mask| mask.to_be_bytes()).collect();
+    bytes.try_into().expect("sixteen masks have 64 bytes")
+}
+
+/// Calls until the piece is used up and nothing held settles; adds the reports.
+pub fn settle_piece(monitor: &mut Monitor, mut piece: &[u8], reports: &mut Vec<u8>) {
+    loop {
+        let mut outbox = [0; REPORT_LENGTH];
+        let (answer, used) = monitor.call(piece, &mut outbox);
+        if answer == NOTHING_SETTLED {
+            return;
+        }
+        piece = &piece[used..];
+        reports.extend(outbox);
+    }
+}
+
+/// All reports for the program's whole input; none if the masks are short or refused.
+pub fn run(input: &[u8]) -> Vec<u8> {
+    let mut reports = Vec::new();
+    if let Some((masks, feed)) = input.split_first_chunk::<MASKS_LENGTH>() {
+        let (answer, mut monitor) = Monitor::start(masks_from(masks));
+        if answer == TAKEN {
+            settle_piece(&mut monitor, feed, &mut reports);
+        }
+    }
+    reports
+}

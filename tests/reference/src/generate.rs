@@ -1,0 +1,190 @@
+//! Seeded feeds: nights of a lively hall, sent over a line that loses, damages, repeats and
+//! makes up bytes.
+
+use crate::feed::{masks_bytes, MASKS_LENGTH};
+use crate::random::Random;
+use crate::record::{sum, Record, MAJOR, MAJOR_LENGTH, MARK, MINOR, MINOR_LENGTH};
+use crate::world::{masks, Chances, World};
+
+#[derive(Clone, Debug)]
+pub struct Night {
+    random: Random,
+    chances: Chances,
+    world: World,
+    /// The cycle of the last good record sent; the monitor's n, unless its count has ended.
+    cycle: u64,
+    last: Vec<u8>,
+    pub damaged: u64,
+}
+
+/// What the program reads for a seed, masks and then a feed of about `size` bytes or more, and
+/// how many spots of it are damaged.
+pub fn input(seed: u64, size: usize) -> (Vec<u8>, u64) {
+    let mut random = Random(seed);
+    let mut bytes = masks_bytes(&masks(&mut random)).to_vec();
+    // Some nights break off anywhere in their last records.
+    let broken_off = if random.one_in(3) { random.index(700) } else { 0 };
+    let begins_late = random.one_in(3);
+    let mut night = Night::after(0, random);
+    if begins_late {
+        bytes.extend(night.travel());
+    }
+    while bytes.len() < MASKS_LENGTH + size + broken_off {
+        bytes.extend(night.step());
+    }
+    bytes.truncate(bytes.len() - broken_off);
+    (bytes, night.damaged)
+}
+
+impl Night {
+    /// A night that goes on from cycle `n`.
+    pub fn after(n: u32, mut random: Random) -> Night {
+        let chances = Chances::drawn(&mut random);
+        let last = Record::quiet(n.into()).bytes();
+        Night { random, chances, world: World::default(), cycle: n.into(), last, damaged: 0 }
+    }
+
+    /// Goes on in long jumps to just before the wire cycle wraps.
+    fn travel(&mut self) -> Vec<u8> {
+        let mut feed = Vec::new();
+        for _ in 0..2 + self.random.below(3) {
+            let left = 65_536 - self.cycle % 65_536;
+            let short_of = self.random.below(left.min(30));
+            feed.extend(self.good(self.cycle + (left - short_of).min(32_767)));
+        }
+        feed
+    }
+
+    /// The next good record, and what the line puts before it.
+    pub fn step(&mut self) -> Vec<u8> {
+        let mut feed = Vec::new();
+        self.world.pass(&self.chances, &mut self.random);
+        if self.random.one_in(self.chances.odd) {
+            feed.extend(self.odd());
+        }
+        if self.random.one_in(self.chances.damage) {
+            self.damaged += 1;
+            feed.extend(match self.random.below(6) {
+                0 | 1 => self.false_major(),
+                2 => self.major_that_hides_minors(),
+                _ => self.damage(),
+            });
+        }
+        let next = self.next_cycle();
+        feed.extend(self.good(next));
+        feed
+    }
+
+    fn next_cycle(&mut self) -> u64 {
+        let to_major = 25 - self.cycle % 25;
+        let far = 1 + self.random.below(32_767);
+        let short = 2 + self.random.below(5);
+        let on = if self.random.one_in(self.chances.jumps) {
+            self.random.pick(&[32_767, far, 25 * (1 + far / 26)])
+        } else if self.random.one_in(self.chances.gaps) {
+            self.random.pick(&[short, short, to_major, to_major, to_major + 1, 30])
+        } else {
+            1
+        };
+        self.cycle + on
+    }
+
+    fn record(&mut self, cycle: u64) -> Record {
+        self.world.record(cycle, &self.chances, &mut self.random)
+    }
+
+    fn good(&mut self, cycle: u64) -> Vec<u8> {
+        self.cycle = cycle;
+        self.last = self.record(cycle).bytes();
+        self.last.clone()
+    }
+
+    /// A whole record that must be refused: stale, repeated or of the wrong kind.
+    fn odd(&mut self) -> Vec<u8> {
+        let back = 1 + self.random.below(32_768);
+        let near = 1 + self.random.below(60);
+        match self.random.below(6) {
+            0 => self.record(self.cycle + 65_536 - back).bytes(),
+            1 => self.record(self.cycle + 32_768).bytes(),
+            2 => self.record(self.cycle + 65_536 - near).bytes(),
+            3 => self.last.clone(),
+            _ => {
+                let cycle = self.cycle + near;
+                let mut record = self.record(u64::from(cycle.is_multiple_of(25)));
+                record.wire = cycle as u16;
+                record.bytes()
+            }
+        }
+    }
+
+    /// Bytes that the reader must drop.
+    fn damage(&mut self) -> Vec<u8> {
+        let ahead = self.random.pick(&[1, 25 - self.cycle % 25]);
+        let mut record = self.record(self.cycle + ahead);
+        let mut bytes = record.bytes();
+        let place = self.random.index(bytes.len());
+        let length = self.random.pick(&[1, 3, 60, 700]);
+        match self.random.below(9) {
+            0 => *bytes.last_mut().expect("a sum") ^= 1 << self.random.below(8),
+            1 => bytes[place] ^= 1 << self.random.below(8),
+            2 => bytes.truncate(place),
+            3 => drop(bytes.drain(..place)),
+            4 => drop(bytes.remove(place)),
+            5 => bytes.insert(place, MARK),
+            6 => bytes = self.random.pick(&[&[MARK][..], &[MARK, MINOR], &[MARK, MAJOR]]).to_vec(),
+            7 => bytes = self.random.junk(length),
+            _ => {
+                self.forbid(&mut record);
+                bytes = record.bytes();
+            }
+        }
+        bytes
+    }
+
+    /// A reserved bit or a quantity above 1,000; the sum will be right.
+    fn forbid(&mut self, record: &mut Record) {
+        let reserved = 1 << (4 + self.random.below(4));
+        let over = self.random.pick(&[1_001, 1_024, 0x8000, 0xFFFF]);
+        match (&mut record.major, self.random.below(3)) {
+            (Some(major), 0) => major.quantities[self.random.index(3)][self.random.index(2)] = over,
+            (_, 1) => record.path |= reserved,
+            _ => record.strings[self.random.index(4)].valves |= reserved,
+        }
+    }
+
+    /// A major mark, then good minor records with zeros, junk or nothing around them.
+    fn false_major(&mut self) -> Vec<u8> {
+        let mut feed = vec![MARK, MAJOR];
+        let most_between = self.random.pick(&[1, 8, 150]);
+        let zeros = self.random.one_in(2);
+        while !(self.cycle + 1).is_multiple_of(25) && feed.len() + MINOR_LENGTH < MAJOR_LENGTH {
+            let between = self.random.index(most_between);
+            feed.extend(if zeros { vec![0; between] } else { self.random.junk(between) });
+            feed.extend(self.good(self.cycle + 1));
+        }
+        if self.random.one_in(2) {
+            feed.resize(feed.len().max(MAJOR_LENGTH), 0);
+        }
+        feed
+    }
+
+    /// A major record, taken or repeated, whose temperatures read as minor records, which must
+    /// not be seen.
+    fn major_that_hides_minors(&mut self) -> Vec<u8> {
+        let to_major = 25 - self.cycle % 25;
+        let cycle = self.cycle + self.random.pick(&[to_major, 0]);
+        let mut bytes = self.record(0).bytes();
+        bytes.truncate(MAJOR_LENGTH - 2);
+        bytes[2..4].copy_from_slice(&(cycle as u16).to_be_bytes());
+        let temperatures = &mut bytes[57..57 + 512];
+        for (hidden, ahead) in temperatures.chunks_exact_mut(MINOR_LENGTH).zip(1..) {
+            let mut record = self.record(1);
+            record.wire = (cycle + ahead) as u16;
+            hidden.copy_from_slice(&record.bytes());
+        }
+        bytes.extend(sum(&bytes).to_be_bytes());
+        self.cycle = cycle;
+        self.last = bytes.clone();
+        bytes
+    }
+}

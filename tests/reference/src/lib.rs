@@ -1,0 +1,24 @@
+//! The monitor of document 01 in plain Rust, jet by jet, in that document's words
+//! and order. It is slow and obvious on purpose: it is what other builds are compared to.
+//!
+//! Lowest part first: `jet`, `jet_string`, `record`, `hall`, `reader`, `report`, `monitor`,
+//! `feed`. The other modules make input and run the programs that are compared.
+
+pub mod feed;
+pub mod hall;
+pub mod jet;
+pub mod jet_string;
+pub mod monitor;
+pub mod reader;
+pub mod record;
+pub mod report;
+
+pub mod generate;
+pub mod process;
+pub mod random;
+pub mod score;
+pub mod script;
+pub mod tally;
+pub mod world;
+
+pub use monitor::Monitor;

@@ -1,0 +1,54 @@
+//! Compares output, counts checks, says loudly which failed and ends the program accordingly.
+
+use std::process::{exit, ExitCode};
+
+/// More failures would only bury the first, and a program that hangs would take hours.
+const MOST_FAILURES: u64 = 10;
+
+#[derive(Debug, Default)]
+pub struct Score {
+    passed: u64,
+    failed: u64,
+}
+
+impl Score {
+    pub fn check(&mut self, name: &str, outcome: Result<(), String>) {
+        match outcome {
+            Ok(()) => self.passed += 1,
+            Err(why) => {
+                println!("FAILED {name}: {why}");
+                self.failed += 1;
+            }
+        }
+        if self.failed == MOST_FAILURES {
+            println!("too many failures, not all was tried");
+            self.end();
+            exit(1);
+        }
+    }
+
+    pub fn end(&self) -> ExitCode {
+        println!("{} passed, {} failed", self.passed, self.failed);
+        match self.failed == 0 && self.passed > 0 {
+            true => ExitCode::SUCCESS,
+            false => ExitCode::FAILURE,
+        }
+    }
+}
+
+/// Demands that the output is made of these parts, and names the first that differs.
+pub fn same(output: Result<Vec<u8>, String>, part: &str, wanted: &[Vec<u8>]) -> Result<(), String> {
+    let output = output?;
+    let mut rest = &output[..];
+    for (number, want) in wanted.iter().enumerate() {
+        let (got, after) = rest.split_at(want.len().min(rest.len()));
+        if got != want {
+            return Err(format!("{part} {number} differs\n  got  {got:02x?}\n  want {want:02x?}"));
+        }
+        rest = after;
+    }
+    match rest.len() {
+        0 => Ok(()),
+        length => Err(format!("{length} bytes more than wanted")),
+    }
+}
