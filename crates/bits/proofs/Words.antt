@@ -10,7 +10,8 @@ use lib.Pow.{pow-pos, pow-lt}
 use lib.Bits.{bitAnd, or-lt, and-le-l}
 use borrow.Author.Tests.{eq-eqb, ne-eqb, lt-ltb}
 use Rattle.bits.specs.Bit.{wordBits, bit, meets, plusBit, withBit, pack, any}
-use Rattle.bits.proofs.Yes.{not-both, and-both, and-left, and-right, and-true, and-false, or-false, or-cases, or-left, or-right, or-none-left, or-none-right, same-yes}
+use Rattle.bits.proofs.Yes.{not-both, and-both, and-left, and-right, and-true, and-false, or-false, or-cases, or-left, or-right}
+use Rattle.bits.proofs.Yes.{or-none-left, or-none-right, same-yes}
 use Rattle.bits.proofs.Bits.{bit-and, bit-or, bit-none, bit-past, bit-one, bit-ext}
 
 -- ---- one bit more

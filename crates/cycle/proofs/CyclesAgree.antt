@@ -3,13 +3,13 @@
 use mathlib.Core.Path.{_≡_, refl, ap, ap₂, _∙_}
 use mathlib.Core.Bool.{Bool, true, false, cond, _&&_, _||_}
 use mathlib.Core.List.{List}
-use Prim.Native.Nat.{ℕ, _<_}
+use Prim.Native.Nat.{ℕ, _^_, _<_}
 use native.Mathlib.Nat.{lt-of-le-of-lt}
-use lib.Bits.{bitAnd, and-le-l}
+use lib.Bits.{bitAnd, and-le-l, or-lt}
 use lib.ListN.{getD}
 use Rattle.bits.specs.Bit.{wordBits, bit, without, any}
 use Rattle.bits.proofs.Bits.{bit-and, bit-or}
-use Rattle.bits.proofs.Words.{pack-at, meets-is, any-same}
+use Rattle.bits.proofs.Words.{pack-lt, pack-at, meets-is, any-same}
 use Rattle.cycle.specs.Size.{jetCount}
 use Rattle.cycle.specs.Map.{mapped}
 use Rattle.cycle.specs.Numbers.{missedCycle, missedMajor}
@@ -64,6 +64,16 @@ module _ (m i j : ℕ) (masks : List ℕ) (x : Sample) (q : Requests) (t : Tempe
       (rechecked-agrees i j m masks bad r ∙ requests-heard m i j masks below stands q s))
 
 -- ---- the close bits
+
+-- a close bit is a manifold's
+pub major-steps-fit : (m : ℕ) (masks : List ℕ) (x : Sample) (q : Requests) (t : Temperatures) (s : StringState) → s .close < 2 ^ m
+    → (words.majorSteps m masks x (words.leakWord t) q s) .close < 2 ^ m
+unfolding words.majorSteps words.kept words.onFailure words.rechecked words.requested words.closeBits
+major-steps-fit m masks x q t s l =
+    let after : StringState = afterRequests m masks q s in
+    let again : ℕ = without (badOf m masks x (words.leakWord t)) (after .over .reenable) in
+    or-lt m (s .close) (words.closeBits m masks (after .on .recheck) again) l
+    (pack-lt m (λ i. words.asksClose (getD masks i 0) (after .on .recheck) again))
 
 pub major-steps-close : (m i : ℕ) (masks : List ℕ) (x : Sample) (q : Requests) (t : Temperatures) (n : ℕ) (path : Bool) (s : StringState)
     → Disjoint m masks → i < m → ProperString m masks s

@@ -3,7 +3,7 @@
 use mathlib.Core.Path.{_≡_, refl, sym, ap, ap₂, _∙_}
 use mathlib.Core.Bool.{Bool, true, false, not, _&&_, _||_}
 use mathlib.Core.List.{List}
-use Prim.Native.Nat.{ℕ, _<_}
+use Prim.Native.Nat.{ℕ, _^_, _<_}
 use lib.ListN.{length, getD}
 use Rattle.bits.specs.Bit.{bit, any}
 use Rattle.bits.proofs.Yes.{and-false}
@@ -26,7 +26,8 @@ use Rattle.cycle.specs.declared.values.Major.{Major}
 use Rattle.cycle.specs.declared.hall.Hall.{Hall}
 use Rattle.cycle.proofs.Judgements.{Follows}
 use Rattle.cycle.proofs.Maps.{in-word}
-use Rattle.cycle.proofs.StringCycles.{minorly, majorly, minor-cycle-agrees, major-cycle-agrees, minor-cycle-close, quiet-close, major-cycle-close}
+use Rattle.cycle.proofs.StringCycles.{minorly, majorly, minor-cycle-agrees, major-cycle-agrees}
+use Rattle.cycle.proofs.StringCycles.{minor-cycle-close, quiet-close, major-cycle-close, minor-cycle-fits, major-cycle-fits}
 use Rattle.cycle.proofs.HallStrings.{minor-length, minor-at, major-at, weighed-at}
 
 -- ---- string s after a taken record
@@ -92,6 +93,18 @@ module _ (h : Hall) (p : ProperHall h) (wire : ℕ) (next : Next) (s : ℕ) (l :
       ∙ major-cycle-close manifoldCount masks (p .disjoint s l) (sampleOf (r .minor) s) (getD (r .requests) s noRequests)
       (getD (r .temperatures) s noTemperatures) (h .n) (next .n) (stringOf h s) (p .proper s l) (bit s (r .minor .path)) i below
       (f .kind)
+
+  -- and no other bit ever is
+  pub close-fits-after : (r : Record) → Follows (h .n) wire (majorKind r) next → (stringOf h s) .close < 2 ^ manifoldCount
+      → (stringOf (taken r next h) s) .close < 2 ^ manifoldCount
+  close-fits-after (minor r) f b =
+      rw (minor-string r f)
+      (minor-cycle-fits manifoldCount masks (p .disjoint s l) (sampleOf r s) noRequests noTemperatures (h .n) (next .n)
+      (stringOf h s) (p .proper s l) (bit s (r .path)) b)
+  close-fits-after (major r) f b =
+      rw (major-string r f)
+      (major-cycle-fits manifoldCount masks (p .disjoint s l) (sampleOf (r .minor) s) (getD (r .requests) s noRequests)
+      (getD (r .temperatures) s noTemperatures) (h .n) (next .n) (stringOf h s) (p .proper s l) (bit s (r .minor .path)) b)
 
 -- ---- the rest of the hall
 

@@ -15,7 +15,8 @@ use Rattle.cycle.specs.Numbers.{judged}
 use Rattle.cycle.specs.Words.{fresh, freshStanding, minorCycle, majorCycle}
 use Rattle.cycle.specs.Banks.{noBank, noQuantities, weighed, weighedAll}
 use Rattle.cycle.specs.Records.{Record, minor, major, majorKind, common}
-use Rattle.cycle.specs.Hall.{pastString, masksOf, sampleOf, noTemperatures, noRequests, freshHall, minorStrings, majorStrings, taken, steppedBy, stepped}
+use Rattle.cycle.specs.Hall.{pastString, masksOf, sampleOf, noTemperatures, noRequests, freshHall, minorStrings, majorStrings}
+use Rattle.cycle.specs.Hall.{taken, steppedBy, stepped}
 use Rattle.cycle.specs.Views.{stringOf}
 use Rattle.cycle.specs.Proper.{FitMap, Disjoint, ProperStanding, ProperString, ProperHall}
 use Rattle.cycle.specs.declared.banks.Bank.{Bank}
@@ -122,7 +123,10 @@ taken-proper (major r) next h p =
       banks = weighed-length (r .quantities) (h .banks) (p .banks);
       disjoint = p .disjoint;
       proper = λ s l.
-          rw (major-at (h .masks) halfway long r s l, minor-at (h .masks) (h .strings) (p .strings) (r .minor) (next .gap) (next .missed) s l)
+          rw (
+            major-at (h .masks) halfway long r s l,
+            minor-at (h .masks) (h .strings) (p .strings) (r .minor) (next .gap) (next .missed) s l,
+          )
           (major-cycle-proper manifoldCount (masksOf (h .masks) s) _ _ _ _ _
           (minor-cycle-proper manifoldCount (masksOf (h .masks) s) _ _ _ _ _ (p .proper s l)));
     }

@@ -2,7 +2,7 @@
 -- the kind; and what a taken record leads to. Assumes nothing.
 use mathlib.Core.Path.{_≡_, refl, sym, ap, _∙_}
 use mathlib.Core.Bool.{Bool, true, false, not}
-use Prim.Native.Nat.{ℕ, _+_, _%_, _<_, _≤_}
+use Prim.Native.Nat.{ℕ, _+_, _-_, _%_, _<_, _≤_}
 use native.Mathlib.Decide.{ℕ-discrete, decLt}
 use native.Mathlib.Omega.{arith}
 use lib.Dec.{eqb, ltb}
@@ -19,20 +19,24 @@ use Rattle.cycle.proofs.Numbers.{judged-repeat, judged-stale, judged-fo
 
 -- ---- every record is judged in exactly one of these ways; the numbers are written as document 01 writes them
 
+-- "d is the wire cycle less the lowest 16 bits of n, modulo 65,536"
+abbrev pub apart : ℕ → ℕ → ℕ
+apart n wire = (wire + (65536 - n % 65536)) % 65536
+
 pub data Judgement (n wire : ℕ) (major : Bool) : Verdict → Type 0 where
-  repeats : distance n wire ≡ 0 → Judgement n wire major (Refuses Repeat)
-  stale : 32768 ≤ distance n wire → Judgement n wire major (Refuses Stale)
-  ends : 0 < distance n wire → distance n wire < 32768 → 4294967295 < n + distance n wire
+  repeats : apart n wire ≡ 0 → Judgement n wire major (Refuses Repeat)
+  stale : 32768 ≤ apart n wire → Judgement n wire major (Refuses Stale)
+  ends : 0 < apart n wire → apart n wire < 32768 → 4294967295 < n + apart n wire
       → Judgement n wire major (Refuses CountEnded)
-  wrong : 0 < distance n wire → distance n wire < 32768 → n + distance n wire ≤ 4294967295
-      → eqb ((n + distance n wire) % 25) 0 ≡ not major → Judgement n wire major (Refuses WrongKind)
-  follows : 0 < distance n wire → distance n wire < 32768 → n + distance n wire ≤ 4294967295
-      → eqb ((n + distance n wire) % 25) 0 ≡ major
+  wrong : 0 < apart n wire → apart n wire < 32768 → n + apart n wire ≤ 4294967295
+      → eqb ((n + apart n wire) % 25) 0 ≡ not major → Judgement n wire major (Refuses WrongKind)
+  follows : 0 < apart n wire → apart n wire < 32768 → n + apart n wire ≤ 4294967295
+      → eqb ((n + apart n wire) % 25) 0 ≡ major
       → Judgement n wire major
       (Takes (record {
-        n = n + distance n wire;
-        gap = ltb 1 (distance n wire);
-        missed = missedMajor n (n + distance n wire);
+        n = n + apart n wire;
+        gap = ltb 1 (apart n wire);
+        missed = missedMajor n (n + apart n wire);
       }))
 
 module _ (n wire : ℕ) (major : Bool) where
@@ -70,7 +74,7 @@ module _ (n wire : ℕ) (major : Bool) where
 
 -- what a taken record leads to
 pub record Follows (n wire : ℕ) (major : Bool) (next : Next) : Type 0 where
-  pub number : next .n ≡ n + distance n wire
+  pub number : next .n ≡ n + apart n wire
   pub above : n < next .n
   pub most : next .n ≤ lastCount
   pub kind : isMajor (next .n) ≡ major

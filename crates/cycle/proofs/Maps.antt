@@ -150,7 +150,15 @@ refused-exactly masks fit = (to, back)
     back w =
         any-at stringCount test (w .string) (w .inHall)
         (shared-overlap manifoldCount (masksOf masks (w .string)) (λ i l. fit (w .string) i (w .inHall) l) manifoldCount (omega arith)
-        (record { one = w .one; other = w .other; jet = w .jet; apart = w .apart; below = w .inString; inOne = w .inOne; inOther = w .inOther }))
+        (record {
+          one = w .one;
+          other = w .other;
+          jet = w .jet;
+          apart = w .apart;
+          below = w .inString;
+          inOne = w .inOne;
+          inOther = w .inOther;
+        }))
 
 pub accepted-disjoint : (masks : List Masks) → FitMap masks → refused stringCount masks ≡ false
     → (s : ℕ) → s < stringCount → Disjoint manifoldCount (masksOf masks s)

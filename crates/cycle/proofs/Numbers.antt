@@ -1,6 +1,6 @@
 -- The verdict on a record by its distance and the number that it leads to; and a missed major cycle. Assumes nothing.
 use mathlib.Core.Path.{_≡_, refl, sym, ap, _∙_}
-use mathlib.Core.Bool.{Bool, true, false, not}
+use mathlib.Core.Bool.{Bool, true, false, not, cond, _&&_, _||_}
 use mathlib.Core.Logic.{_↔_}
 use Prim.Native.Nat.{ℕ, _+_, _-_, _*_, _/_, _%_, _<_, _≤_}
 use native.Mathlib.Omega.{arith}
@@ -40,7 +40,7 @@ module _ (n d : ℕ) (gap major : Bool) where
   follows-wrong h e = rw (le-ltb lastCount (n + d) h, e) (kind major)
     where
       kind : (b : Bool)
-          → mathlib.Core.Bool.cond (mathlib.Core.Bool._||_ (mathlib.Core.Bool._&&_ (not b) (not b)) (mathlib.Core.Bool._&&_ (not (not b)) b))
+          → cond ((not b && not b) || (not (not b) && b))
           (Refuses WrongKind) (Takes (record { n = n + d; gap = gap; missed = missedMajor n (n + d) }))
           ≡ Refuses WrongKind
       kind true = refl
@@ -52,7 +52,7 @@ module _ (n d : ℕ) (gap major : Bool) where
   follows-right h e = rw (le-ltb lastCount (n + d) h, e) (kind major)
     where
       kind : (b : Bool)
-          → mathlib.Core.Bool.cond (mathlib.Core.Bool._||_ (mathlib.Core.Bool._&&_ b (not b)) (mathlib.Core.Bool._&&_ (not b) b))
+          → cond ((b && not b) || (not b && b))
           (Refuses WrongKind) (Takes (record { n = n + d; gap = gap; missed = missedMajor n (n + d) }))
           ≡ Takes (record { n = n + d; gap = gap; missed = missedMajor n (n + d) })
       kind true = refl

@@ -3,7 +3,8 @@
 use mathlib.Core.Path.{_≡_, refl, sym, ap, ap₂, subst, _∙_}
 use mathlib.Core.Bool.{Bool, true, false, cond, _&&_, _||_}
 use mathlib.Core.List.{List, [], _∷_}
-use Prim.Native.Nat.{ℕ, _<_}
+use Prim.Native.Nat.{ℕ, _^_, _<_}
+use native.Mathlib.Omega.{arith}
 use lib.ListN.{getD, getD-replicate}
 use Rattle.bits.specs.Bit.{bit, any}
 use Rattle.bits.proofs.Yes.{and-false}
@@ -30,11 +31,12 @@ use Rattle.cycle.specs.declared.map.Masks.{Masks}
 use Rattle.cycle.specs.declared.number.Next.{Next}
 use Rattle.cycle.specs.declared.number.Verdict.{Verdict}
 use Rattle.cycle.specs.declared.number.Verdict.the-variants.{Takes, Refuses}
+use Rattle.cycle.specs.declared.string.StringState.{StringState}
 use Rattle.cycle.specs.declared.hall.Hall.{Hall}
 use Rattle.cycle.specs.declared.hall.Stepped.{Stepped}
 use Rattle.cycle.proofs.Judgements.{Follows, takes-follows, refuses-untaken}
 use Rattle.cycle.proofs.HallStrings.{fresh-string, fresh-proper, taken-proper}
-use Rattle.cycle.proofs.HallAgrees.{jet-after, close-after, number-after, map-after, bank-after}
+use Rattle.cycle.proofs.HallAgrees.{jet-after, close-after, close-fits-after, number-after, map-after, bank-after}
 
 record-number : (n s i j : ℕ) (r : Record) → (jetRecord n s i j r) .n ≡ n
 record-number n s i j (minor r) = refl
@@ -48,11 +50,12 @@ both-ways : (m a b : Bool) → ((m && a) || (m && b)) ≡ (m && (a || b))
 both-ways true a b = refl
 both-ways false a b = refl
 
--- what a run keeps: a proper hall that is told by the records taken, whose cycle numbers rise
+-- what a run keeps: a proper hall that is told by the records taken, whose cycle numbers rise; close bits are manifolds' alone
 pub record Run (masks : List Masks) (h : Hall) (ts : List TakenRecord) : Type 0 where
   pub proper : ProperHall h
   pub told : Told masks h ts
   pub rising : (s i j : ℕ) → Rising (jetHistory s i j ts)
+  pub closeFits : (s : ℕ) → s < stringCount → (stringOf h s) .close < 2 ^ manifoldCount
 
 -- ---- fresh
 
@@ -61,15 +64,18 @@ unfolding freshHall jets.run jets.hasAsked
 run-fresh masks fit accepted = record {
   proper = fresh-proper masks fit accepted;
   rising = λ s i j. tt;
+  closeFits = λ s l. rw (ap (λ (x : StringState). x .close) (fresh-string masks s l)) (omega arith);
   told = record {
     map = refl;
     number = refl;
     jets = λ s i j l below stands.
-        ap (jetOf i j) (fresh-string masks s l) ∙ simp (bit-none, getD-replicate {A = ℕ} manifoldCount i 0 0 below, bit-ones manifoldCount i below);
+        ap (jetOf i j) (fresh-string masks s l)
+        ∙ simp (bit-none, getD-replicate {A = ℕ} manifoldCount i 0 0 below, bit-ones manifoldCount i below);
     closes = λ s i l below.
         ap (λ x. bit i (x .close)) (fresh-string masks s l)
         ∙ bit-none i
-        ∙ sym (any-none jetCount (λ j. bit j (getD (masksOf masks s) i 0) && false) (λ j k. and-false (bit j (getD (masksOf masks s) i 0))));
+        ∙ sym
+        (any-none jetCount (λ j. bit j (getD (masksOf masks s) i 0) && false) (λ j k. and-false (bit j (getD (masksOf masks s) i 0))));
     banks = λ m l. getD-replicate moduleCount m noBank noBank l;
   };
 }
@@ -88,6 +94,7 @@ module _ (masks : List Masks) (h : Hall) (ts : List TakenRecord) (run : Run mask
     proper = proper;
     rising = λ s i j.
         (rw (record-number (next .n) s i j r, reached-same s i j ts, ← run .told .number) (f .above), run .rising s i j);
+    closeFits = λ s l. close-fits-after h (run .proper) ((common r) .wire) next s l r f (run .closeFits s l);
     told = record {
       map = map-after r next h ∙ run .told .map;
       number = number-after r next h;

@@ -3,7 +3,7 @@
 use mathlib.Core.Path.{_≡_, refl, sym, ap, ap₂, _∙_}
 use mathlib.Core.Bool.{Bool, true, false, not, cond, _&&_, _||_}
 use mathlib.Core.List.{List}
-use Prim.Native.Nat.{ℕ, _<_}
+use Prim.Native.Nat.{ℕ, _^_, _<_}
 use lib.ListN.{getD}
 use Rattle.bits.specs.Bit.{bit, any}
 use Rattle.bits.proofs.Yes.{and-false, or-false}
@@ -21,7 +21,7 @@ use Rattle.cycle.specs.declared.values.Temperatures.{Temperatures}
 use Rattle.cycle.specs.declared.values.Requests.{Requests}
 use Rattle.cycle.proofs.ProperKept.{minor-steps-proper}
 use Rattle.cycle.proofs.StepsAgree.{path-lost-agrees}
-use Rattle.cycle.proofs.CyclesAgree.{minor-steps-agree, major-steps-agree, minor-steps-close, major-steps-close}
+use Rattle.cycle.proofs.CyclesAgree.{minor-steps-agree, major-steps-agree, minor-steps-close, major-steps-close, major-steps-fit}
 
 module _ (m : ℕ) (masks : List ℕ) (x : Sample) (q : Requests) (t : Temperatures) (old n : ℕ) where
   -- steps 1 to 4, and 1 to 8, with the gap told by the two cycle numbers
@@ -59,6 +59,14 @@ module _ (m : ℕ) (masks : List ℕ) (d : Disjoint m masks) (x : Sample) (q : R
   unfolding words.minorCycle words.pathLost
   minor-cycle-close true = refl
   minor-cycle-close false = minor-steps-close m masks x (missedCycle old n) (missedMajor old n) s
+
+  pub minor-cycle-fits : (path : Bool) → s .close < 2 ^ m → (minorly m masks x q t old n path s) .close < 2 ^ m
+  minor-cycle-fits path l = rw (minor-cycle-close path) l
+
+  pub major-cycle-fits : (path : Bool) → s .close < 2 ^ m → (majorly m masks x q t old n path s) .close < 2 ^ m
+  unfolding words.majorCycle
+  major-cycle-fits true l = minor-cycle-fits true l
+  major-cycle-fits false l = major-steps-fit m masks x q t (minorly m masks x q t old n false s) (minor-cycle-fits false l)
 
   -- no jet asks at a minor cycle, or under a path fault
   asks-none : (path : Bool) (i j : ℕ) → (not path && isMajor n) ≡ false

@@ -2,7 +2,8 @@
 use mathlib.Core.Bool.{Bool, true, false}
 use Prim.Native.Nat.{ℕ}
 use Rattle.cycle.specs.declared.answer.Answer.{Answer}
-use Rattle.cycle.specs.declared.answer.Answer.the-variants.{Taken, Stale, Repeat, CountEnded, WrongKind, OutboxShort, MapRefused, NothingSettled}
+use Rattle.cycle.specs.declared.answer.Answer.the-variants.{Taken, Stale, Repeat, CountEnded, WrongKind, OutboxShort, MapRefused}
+use Rattle.cycle.specs.declared.answer.Answer.the-variants.{NothingSettled}
 
 -- column "no."; a call that settles nothing says so, which is no refusal and has no number of the table
 abbrev pub numberOf : Answer → ℕ

@@ -42,8 +42,15 @@ abbrev pub pastStanding : Standing
 pastStanding = record { fail = 0; valves = 0; saved = [] }
 
 abbrev pub pastString : StringState
-pastString = record
-    { standing = pastStanding; good = pastStanding; off = noOff; on = noOn; over = record { inhibit = 0; reenable = 0 }; close = 0; lost = false }
+pastString = record {
+  standing = pastStanding;
+  good = pastStanding;
+  off = noOff;
+  on = noOn;
+  over = record { inhibit = 0; reenable = 0 };
+  close = 0;
+  lost = false;
+}
 
 -- string s's part of the map and of a record
 abbrev pub masksOf : List Masks → ℕ → List ℕ

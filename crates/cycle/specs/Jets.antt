@@ -58,8 +58,14 @@ abbrev pub freshStanding : JetStanding
 freshStanding = record { fail = false; valve = true; saved = false }
 
 abbrev pub freshJet : JetState
-freshJet = record
-    { standing = freshStanding; good = freshStanding; off = noOff; on = noOn; over = record { inhibit = false; reenable = false }; lost = false }
+freshJet = record {
+  standing = freshStanding;
+  good = freshStanding;
+  off = noOff;
+  on = noOn;
+  over = record { inhibit = false; reenable = false };
+  lost = false;
+}
 
 -- 1. Path (000, 1.3.4.2): "If the path bit is set, remember that; nothing else of the string changes and its requests are lost."
 unfoldable pub pathLost : JetState → JetState

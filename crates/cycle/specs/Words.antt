@@ -55,8 +55,15 @@ abbrev pub freshStanding : Standing
 freshStanding = record { fail = 0; valves = allOpen; saved = replicate manifoldCount 0 }
 
 abbrev pub fresh : StringState
-fresh = record
-    { standing = freshStanding; good = freshStanding; off = noOff; on = noOn; over = record { inhibit = 0; reenable = 0 }; close = 0; lost = false }
+fresh = record {
+  standing = freshStanding;
+  good = freshStanding;
+  off = noOff;
+  on = noOn;
+  over = record { inhibit = 0; reenable = 0 };
+  close = 0;
+  lost = false;
+}
 
 -- 1. Path
 unfoldable pub pathLost : StringState → StringState
@@ -124,7 +131,8 @@ remembered now p s =
 unfoldable pub manifolds : ℕ → List ℕ → ℕ → StringState → StringState
 manifolds m masks now s =
     remembered now
-    (passed m masks (s .standing .valves) now (record { fail = s .standing .fail; reenable = s .over .reenable; saved = s .standing .saved }))
+    (passed m masks (s .standing .valves) now
+    (record { fail = s .standing .fail; reenable = s .over .reenable; saved = s .standing .saved }))
     s
 
 -- 5. Requests: those named one way only are carried out

@@ -63,6 +63,10 @@ oxidizer-bit (suc zero) banks h = all-bits 5 banks ∙ simp or-false
 oxidizer-bit (suc (suc zero)) banks h = all-bits 6 banks
 oxidizer-bit (suc (suc (suc m))) banks h = absurd (omega arith)
 
+-- the bits that stand for no module
+pub blank-bits : (banks : List Bank) → (bit 3 (balanceOf moduleCount banks) ≡ false) × (bit 7 (balanceOf moduleCount banks) ≡ false)
+blank-bits banks = (all-bits 3 banks, all-bits 7 banks)
+
 -- ---- it fits a byte
 
 plus-below : (w n : ℕ) (b : Bool) → w < 2 ^ 8 → n < 8 → plusBit w n b < 2 ^ 8

@@ -64,7 +64,8 @@ used-within m piece out =
 -- the outcome does not depend on the outbox, whose bytes stay or have the report before them
 pub record Written (c d : Result) (out : List ℕ) : Type 0 where
   pub outcome : c .outcome ≡ d .outcome
-  pub report : settledAny (d .outcome .answer) ≡ true → (c .outbox ≡ d .outbox ++ drop reportLength out) × (length (d .outbox) ≡ reportLength)
+  pub report : settledAny (d .outcome .answer) ≡ true
+      → (c .outbox ≡ d .outbox ++ drop reportLength out) × (length (d .outbox) ≡ reportLength)
   pub none : settledAny (d .outcome .answer) ≡ false → c .outbox ≡ out
 
 module _ (k : Kind) (hall : Hall) (s : Stop) (used : ℕ) (out : List ℕ) where
@@ -77,7 +78,8 @@ module _ (k : Kind) (hall : Hall) (s : Stop) (used : ℕ) (out : List ℕ) where
       let x = stepped (valuesOf k (take (lengthOf k) (s .left))) hall in
       ap length (append-nil (reportOf (x .answer) (x .hall))) ∙ report-length (x .answer) (x .hall)
 
-written-by : (k : Kind) (hall : Hall) (s : Stop) (used : ℕ) (out : List ℕ) → Written (calledBy k hall s used out) (calledBy k hall s used []) out
+written-by : (k : Kind) (hall : Hall) (s : Stop) (used : ℕ) (out : List ℕ)
+    → Written (calledBy k hall s used out) (calledBy k hall s used []) out
 unfolding reported
 written-by NoKind hall s used out = record { outcome = refl; report = λ e. not-both false e refl; none = λ e. refl }
 written-by Minor hall s used out = record {

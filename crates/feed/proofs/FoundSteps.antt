@@ -32,7 +32,8 @@ step-refused MinorKind l h a e = rw e
 step-refused MajorKind l h a e = rw e
 
 pub step-minor : (k : Kind) (l : List ℕ) (h : Hall) (next : Next) → majorOfKinds k ≡ false
-    → judged (h .n) ((minorOf l) .wire) (majorOfKinds k) ≡ Takes next → steppedTo Taken (minorTaken (minorOf l) next h) ≡ stepped (valuesOf k l) h
+    → judged (h .n) ((minorOf l) .wire) (majorOfKinds k) ≡ Takes next
+    → steppedTo Taken (minorTaken (minorOf l) next h) ≡ stepped (valuesOf k l) h
 unfolding valuesOf majorOf stepped taken
 step-minor NoKind l h next m e = rw e
 step-minor MinorKind l h next m e = rw e

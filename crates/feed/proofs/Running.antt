@@ -146,7 +146,8 @@ module _ (m : Monitor) (piece out₀ : List ℕ) (hall : Hall) (b : List ℕ) (c
 
     monitor-next : monitorAt (r .hall) b′ (r .count) ≡ c .outcome .monitor
     monitor-next =
-        let there : monitorAt (r .hall) b′ (r .count) ≡ (called (monitorAt hall b count) (drop used piece) (drop written out)) .outcome .monitor =
+        let there : monitorAt (r .hall) b′ (r .count)
+        ≡ (called (monitorAt hall b count) (drop used piece) (drop written out)) .outcome .monitor =
         λ i. record { hall = turned .hall i; held = turned .held i; count = turned .count i } in
         there ∙ ap (λ (x : Outcome). x .monitor) (wrote .outcome)
 
@@ -227,7 +228,8 @@ no-room m piece out l =
 -- the rest of the outbox, lent and given back
 pub put-rest : (a : ℕ) (out o : List ℕ) → a ≤ length out → putMid a (length out - a) out o ≡ take a out ++ o
 put-rest a out o h =
-    let e : drop (length out - a) (drop a out) ≡ [] = drop-of-length-le (drop a out) {i = length out - a} (omega (arith, length-drop a out)) in
+    let e : drop (length out - a) (drop a out) ≡ [] =
+    drop-of-length-le (drop a out) {i = length out - a} (omega (arith, length-drop a out)) in
     rw (e, append-nil)
 
 -- the loop starts from the monitor handed in, put in order
@@ -265,4 +267,5 @@ runs-within (suc n) m piece =
 pub written-within : (x : Reported) (out : List ℕ) (r : Ran) (after : List ℕ) → Ran-by x out r after → length after ≡ length out
     → r .written ≤ length out
 written-within x out r after b e =
-    omega (arith, b .written, sym e ∙ ap length (b .outbox) ∙ length-append (x .reports) (drop (length (x .reports)) out), length-drop (length (x .reports)) out)
+    let l = sym e ∙ ap length (b .outbox) ∙ length-append (x .reports) (drop (length (x .reports)) out) in
+    omega (arith, b .written, l, length-drop (length (x .reports)) out)

@@ -16,10 +16,12 @@ use Rattle.cycle.specs.declared.values.Minor.{Minor}
 use Rattle.cycle.specs.declared.values.Major.{Major}
 use Rattle.cycle.specs.Records.{minor, major}
 use Rattle.cycle.proofs.Each.{each-same}
-use Rattle.feed.specs.Size.{minorLength, majorLength, samplesFrom, sampleLength, temperaturesFrom, temperaturesLength, temperatureCount, requestsFrom, requestsLength, quantitiesFrom, quantitiesLength}
+use Rattle.feed.specs.Size.{minorLength, majorLength, samplesFrom, sampleLength, temperaturesFrom, temperaturesLength}
+use Rattle.feed.specs.Size.{temperatureCount, requestsFrom, requestsLength, quantitiesFrom, quantitiesLength}
 use Rattle.feed.specs.Bytes.{two, four}
 use Rattle.feed.specs.Format.{lengthOf}
-use Rattle.feed.specs.Values.{sampleAt, samplesOf, minorOf, wordsAt, temperaturesAt, zeroTemperatures, temperaturesOf, requestsAt, requestsOf, quantitiesAt, quantitiesOf, majorOf, valuesOf}
+use Rattle.feed.specs.Values.{sampleAt, samplesOf, minorOf, wordsAt, temperaturesAt, zeroTemperatures, temperaturesOf, requestsAt}
+use Rattle.feed.specs.Values.{requestsOf, quantitiesAt, quantitiesOf, majorOf, valuesOf}
 use Rattle.feed.specs.declared.format.Kind.{Kind}
 use Rattle.feed.specs.declared.format.Kind.the-variants.{NoKind, Minor as MinorKind, Major as MajorKind}
 
@@ -66,11 +68,12 @@ module _ (n : ℕ) (l : List ℕ) where
   major-taken h =
       let temperatures : temperaturesOf stringCount (take n l) ≡ temperaturesOf stringCount l =
       each-same (λ s x. temperaturesAt (take n l) (temperaturesFrom + temperaturesLength * s))
-      (λ s x. temperaturesAt l (temperaturesFrom + temperaturesLength * s)) noTemperatures (replicate stringCount zeroTemperatures) stringCount
-      (λ s x b. words-same (temperaturesFrom + temperaturesLength * s) (omega arith)) in
+      (λ s x. temperaturesAt l (temperaturesFrom + temperaturesLength * s)) noTemperatures (replicate stringCount zeroTemperatures)
+      stringCount (λ s x b. words-same (temperaturesFrom + temperaturesLength * s) (omega arith)) in
       let requests : requestsOf stringCount (take n l) ≡ requestsOf stringCount l =
       each-same (λ s x. requestsAt (take n l) (requestsFrom + requestsLength * s)) (λ s x. requestsAt l (requestsFrom + requestsLength * s))
-      noRequests (replicate stringCount noRequests) stringCount (λ s x b. requests-same (requestsFrom + requestsLength * s) (omega arith)) in
+      noRequests (replicate stringCount noRequests) stringCount
+      (λ s x b. requests-same (requestsFrom + requestsLength * s) (omega arith)) in
       let quantities : quantitiesOf moduleCount (take n l) ≡ quantitiesOf moduleCount l =
       each-same (λ m x. quantitiesAt (take n l) (quantitiesFrom + quantitiesLength * m))
       (λ m x. quantitiesAt l (quantitiesFrom + quantitiesLength * m)) noQuantities (replicate moduleCount noQuantities) moduleCount

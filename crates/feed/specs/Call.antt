@@ -8,7 +8,8 @@ use lib.ListN.{length, take, drop, replicate}
 use Rattle.cycle.specs.Size.{stringCount}
 use Rattle.cycle.specs.Hall.{started, stepped}
 use Rattle.cycle.specs.declared.answer.Answer.{Answer}
-use Rattle.cycle.specs.declared.answer.Answer.the-variants.{Taken, Stale, Repeat, CountEnded, WrongKind, OutboxShort, MapRefused, NothingSettled}
+use Rattle.cycle.specs.declared.answer.Answer.the-variants.{Taken, Stale, Repeat, CountEnded, WrongKind, OutboxShort, MapRefused}
+use Rattle.cycle.specs.declared.answer.Answer.the-variants.{NothingSettled}
 use Rattle.cycle.specs.declared.hall.Hall.{Hall}
 use Rattle.cycle.specs.declared.hall.Stepped.{Stepped}
 use Rattle.cycle.specs.declared.map.Masks.{Masks}

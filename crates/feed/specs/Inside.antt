@@ -33,7 +33,8 @@ abbrev pub filled : List ℕ → List ℕ → ℕ → Filled
 filled h piece from =
     let s = reads h (drop from piece) in
     record {
-      found = record { kind = shown (look (s .left)); held = true; at = 0; count = length (s .left); used = length piece - length (s .rest) };
+      found = record
+          { kind = shown (look (s .left)); held = true; at = 0; count = length (s .left); used = length piece - length (s .rest) };
       kept = store (s .left);
     }
 

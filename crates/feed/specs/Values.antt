@@ -14,7 +14,8 @@ use Rattle.cycle.specs.declared.values.Temperatures.{Temperatures}
 use Rattle.cycle.specs.declared.values.Requests.{Requests}
 use Rattle.cycle.specs.declared.values.Quantities.{Quantities}
 use Rattle.cycle.specs.declared.values.Major.{Major}
-use Rattle.feed.specs.Size.{pathAt, samplesFrom, sampleLength, temperaturesFrom, temperaturesLength, temperatureCount, requestsFrom, requestsLength, quantitiesFrom, quantitiesLength}
+use Rattle.feed.specs.Size.{pathAt, samplesFrom, sampleLength, temperaturesFrom, temperaturesLength, temperatureCount, requestsFrom}
+use Rattle.feed.specs.Size.{requestsLength, quantitiesFrom, quantitiesLength}
 use Rattle.feed.specs.Bytes.{two, four}
 use Rattle.feed.specs.declared.format.Kind.{Kind}
 use Rattle.feed.specs.declared.format.Kind.the-variants.{NoKind, Minor as MinorKind, Major as MajorKind}

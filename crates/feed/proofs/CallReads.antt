@@ -1,0 +1,164 @@
+-- Demand 1 of a call: what it drops, settles and holds, and where it stops. Assumes nothing.
+use mathlib.Core.Path.{_≡_, refl, sym, ap, _∙_}
+use mathlib.Core.List.{List, [], _++_}
+use mathlib.Core.Logic.{_⊎_, inl, inr}
+use Prim.Native.Nat.{ℕ, _+_, _-_, _<_, _≤_}
+use native.Mathlib.Omega.{arith}
+use lib.ListN.{length, take, drop, length-append, length-drop, take-append-drop}
+use lib.Seq.{length-take-le, take-append-le}
+use Rattle.feed.specs.Size.{storeLength, outboxNeeded}
+use Rattle.feed.specs.Format.{lengthOf, look}
+use Rattle.feed.specs.Reader.{settle, shown, Stop, reads}
+use Rattle.feed.specs.Good.{WholeRecord}
+use Rattle.feed.specs.Settled.{kindIn, recordIn}
+use Rattle.feed.specs.Answered.{Read}
+use Rattle.feed.specs.Call.{holds, calledBy, settledOne, called, call}
+use Rattle.feed.specs.declared.format.Kind.{Kind}
+use Rattle.feed.specs.declared.format.Kind.the-variants.{NoKind}
+use Rattle.feed.specs.declared.format.Look.{Look}
+use Rattle.feed.specs.declared.format.Look.the-variants.{Drops, Waits, Loses, Settles}
+use Rattle.feed.specs.declared.call.Monitor.{Monitor}
+use Rattle.feed.proofs.Lengths.{Real, by-kind, real-none, real-long}
+use Rattle.feed.proofs.Settling.{settled-append}
+use Rattle.feed.proofs.Fronts.{settle-short, settle-end}
+use Rattle.feed.proofs.Reading.{reads-whole, reads-short, reads-waits}
+use Rattle.feed.proofs.InPlace.{taken-settles}
+use Rattle.feed.proofs.Turning.{rest-short, shown-sized}
+use Rattle.feed.proofs.Tails.{dropped-bad}
+use Rattle.feed.proofs.Goods.{settles-whole, whole-settles}
+use Rattle.feed.proofs.Calling.{holds-short, call-called}
+use Rattle.feed.proofs.CallCases.{real-called}
+use Rattle.feed.proofs.Answered.{record-none}
+use Rattle.feed.proofs.Stops.{stops}
+
+shown-settles : (l : List ℕ) (k : Kind) → shown (look l) ≡ k → Real k → look l ≡ Settles k
+shown-settles l k e r = by (look l) e
+  where
+    by : (o : Look) → shown o ≡ k → o ≡ Settles k
+    by Drops s = absurd (real-none k r (sym s))
+    by Waits s = absurd (real-none k r (sym s))
+    by Loses s = absurd (real-none k r (sym s))
+    by (Settles n) s = ap Settles s
+
+-- the record that stands first is whole
+pub record-whole : (l : List ℕ) → Real (kindIn l) → WholeRecord (recordIn l)
+record-whole l r =
+    let k : Kind = kindIn l in
+    settles-whole (take (lengthOf k) (settle l)) k (
+      length-take-le (lengthOf k) (settle l) (shown-sized (settle l) k refl r),
+      taken-settles (settle l) k (shown-settles (settle l) k refl r),
+    )
+
+module _ (m : Monitor) (piece out : List ℕ) where
+  abbrev all : List ℕ
+  all = holds m ++ piece
+
+  abbrev stop : Stop
+  stop = reads (holds m) piece
+
+  abbrev taken : ℕ
+  taken = length piece - length (stop .rest)
+
+  -- what was held and used
+  abbrev front : List ℕ
+  front = holds m ++ take taken piece
+
+  gone : List ℕ
+  gone = take (length front - length (settle front)) front
+
+  front-parts : front ≡ gone ++ stop .left
+  unfolding gone
+  front-parts =
+      sym (take-append-drop (length front - length (settle front)) front)
+      ∙ ap (λ (t : List ℕ). gone ++ t) (settle-end front ∙ stops (holds m) piece .there)
+
+  gone-long : length gone ≡ length all - length (settle all)
+  unfolding gone
+  gone-long =
+      let s = rest-short (holds m) piece in
+      let f = settle-short front in
+      let t : length (take taken piece) ≡ taken = length-take-le taken piece (omega arith) in
+      let n : length gone ≡ length front - length (settle front) =
+      length-take-le (length front - length (settle front)) front (omega arith) in
+      let l : length (settle front) ≡ length (stop .left) = ap length (stops (holds m) piece .there) in
+      let w : length (stop .left) + length (stop .rest) ≡ length (settle all) =
+      sym (length-append (stop .left) (stop .rest)) ∙ ap length (reads-whole (holds m) piece .0) in
+      omega (arith, n, l, w, length-append (holds m) piece, length-append (holds m) (take taken piece), t)
+
+  none-lost : (i : ℕ) → i < length gone → (r rest : List ℕ) → drop i all ≡ r ++ rest → WholeRecord r → ⊥
+  none-lost i l r rest e w =
+      let x = whole-settles r w in
+      dropped-bad all i (omega (arith, gone-long)) (x .0) (ap look e ∙ settled-append r rest (x .0) (x .2 .1))
+
+  not-before : (u : ℕ) → u < taken → recordIn (holds m ++ take u piece) ≡ []
+  not-before u l = record-none (holds m ++ take u piece) (stops (holds m) piece .before u l)
+
+  kind-same : shown (look (stop .left)) ≡ kindIn all
+  kind-same = ap shown (reads-whole (holds m) piece .1)
+
+  -- the record stands at the front of what is left
+  first-same : recordIn all ≡ take (lengthOf (kindIn all)) (stop .left)
+  unfolding lengthOf
+  first-same = by (by-kind (kindIn all))
+    where
+      by : (kindIn all ≡ NoKind) ⊎ Real (kindIn all) → recordIn all ≡ take (lengthOf (kindIn all)) (stop .left)
+      by (inl z) = record-none all z ∙ sym (ap (λ (k : Kind). take (lengthOf k) (stop .left)) z)
+      by (inr r) =
+          ap (take (lengthOf (kindIn all))) (sym (reads-whole (holds m) piece .0))
+          ∙ take-append-le (lengthOf (kindIn all)) (stop .left) (stop .rest) (shown-sized (stop .left) (kindIn all) kind-same r)
+
+  settles-there : recordIn front ≡ recordIn all
+  settles-there =
+      ap (λ (t : List ℕ). take (lengthOf (shown (look t))) t) (stops (holds m) piece .there)
+      ∙ ap (λ (k : Kind). take (lengthOf k) (stop .left)) kind-same
+      ∙ sym first-same
+
+  -- nothing is settled
+  read-none : kindIn all ≡ NoKind → Read m piece (calledBy NoKind (m .hall) stop taken out)
+  read-none z =
+      let r : recordIn all ≡ [] = record-none all z in
+      record {
+        dropped = gone;
+        held = stop .left;
+        parts = front-parts ∙ ap (λ (t : List ℕ). gone ++ (t ++ stop .left)) (sym r);
+        store = refl;
+        short = reads-waits (holds m) piece (kind-same ∙ z);
+        whole = inl r;
+        noneLost = none-lost;
+        within = omega arith;
+        settles = settles-there;
+        notBefore = not-before;
+      }
+
+  -- a record is settled
+  read-some : Real (kindIn all) → Read m piece (settledOne (kindIn all) (m .hall) stop taken out)
+  read-some r =
+      let n : ℕ = lengthOf (kindIn all) in
+      let h = holds-short m in
+      let most : length (stop .left) ≤ storeLength = reads-short (holds m) piece (omega arith) in
+      record {
+        dropped = gone;
+        held = drop n (stop .left);
+        parts =
+            front-parts
+            ∙ ap (λ (t : List ℕ). gone ++ t)
+            (sym (take-append-drop n (stop .left)) ∙ ap (λ (t : List ℕ). t ++ drop n (stop .left)) (sym first-same));
+        store = refl;
+        short = omega (arith, length-drop n (stop .left), real-long (kindIn all) r);
+        whole = inr (record-whole all r);
+        noneLost = none-lost;
+        within = omega arith;
+        settles = settles-there;
+        notBefore = not-before;
+      }
+
+  read-called : Read m piece (called m piece out)
+  unfolding called
+  read-called = rw kind-same (by (by-kind (kindIn all)))
+    where
+      by : (kindIn all ≡ NoKind) ⊎ Real (kindIn all) → Read m piece (calledBy (kindIn all) (m .hall) stop taken out)
+      by (inl z) = rw z (read-none z)
+      by (inr r) = rw (real-called (kindIn all) (m .hall) stop taken out r) (read-some r)
+
+  pub call-reads : outboxNeeded ≤ length out → Read m piece (call m piece out)
+  call-reads room = rw (call-called m piece out room) read-called

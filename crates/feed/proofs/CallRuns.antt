@@ -1,0 +1,146 @@
+-- What any calls keep, from fresh over an accepted map: the hall's run over the records answered 0, and numbers that fit their bytes in a
+-- report. Assumes nothing.
+use mathlib.Core.Path.{_≡_, refl, subst}
+use mathlib.Core.Bool.{false, cond}
+use mathlib.Core.List.{List, [], _∷_, _++_}
+use mathlib.Core.Logic.{_⊎_, inl, inr}
+use Prim.Native.Nat.{ℕ, _+_, _*_, _<_, _≤_}
+use native.Mathlib.Omega.{arith}
+use lib.ListN.{length, getD, replicate, getD-replicate}
+use Rattle.cycle.specs.Size.{stringCount, moduleCount, lastCount}
+use Rattle.cycle.specs.Answers.{isTaken}
+use Rattle.cycle.specs.Map.{refused}
+use Rattle.cycle.specs.Banks.{noBank, noQuantities}
+use Rattle.cycle.specs.Numbers.{judged}
+use Rattle.cycle.specs.Records.{Record, minor, major, majorKind, common}
+use Rattle.cycle.specs.Hall.{freshHall, started, steppedBy, stepped}
+use Rattle.cycle.specs.Proper.{FitMap, ProperHall}
+use Rattle.cycle.specs.Runs.{TakenRecord, bankBy}
+use Rattle.cycle.specs.declared.banks.Bank.{Bank}
+use Rattle.cycle.specs.declared.hall.Hall.{Hall}
+use Rattle.cycle.specs.declared.map.Masks.{Masks}
+use Rattle.cycle.specs.declared.number.Verdict.{Verdict}
+use Rattle.cycle.specs.declared.number.Verdict.the-variants.{Takes, Refuses}
+use Rattle.cycle.specs.declared.values.Quantities.{Quantities}
+use Rattle.cycle.proofs.Balance.{weighed-exactly}
+use Rattle.cycle.proofs.Judgements.{takes-follows}
+use Rattle.cycle.proofs.HallAgrees.{number-after, bank-after}
+use Rattle.cycle.proofs.Each.{each-at}
+use Rattle.cycle.proofs.Runs.{Run, run-fresh, run-step}
+use Rattle.feed.specs.Size.{mostQuantity, quantitiesFrom, quantitiesLength}
+use Rattle.feed.specs.Bytes.{two}
+use Rattle.feed.specs.Format.{lengthOf}
+use Rattle.feed.specs.Values.{quantitiesAt, quantitiesOf, majorOf, valuesOf}
+use Rattle.feed.specs.Good.{QuantitiesRight, WholeRecord}
+use Rattle.feed.specs.Settled.{kindIn, recordIn, valuesIn}
+use Rattle.feed.specs.Call.{holds, Result, startedOver, called, call}
+use Rattle.feed.specs.Calls.{Made, monitorAfter, takenRecords}
+use Rattle.feed.specs.declared.format.Kind.{Kind}
+use Rattle.feed.specs.declared.format.Kind.the-variants.{NoKind, Minor, Major}
+use Rattle.feed.specs.declared.call.Monitor.{Monitor}
+use Rattle.feed.proofs.Lengths.{below-or}
+use Rattle.feed.proofs.Calling.{call-called}
+use Rattle.feed.proofs.CallCases.{CallCase, none, some, call-case}
+use Rattle.feed.proofs.Answered.{record-long, short-call}
+use Rattle.feed.proofs.AtOnce.{is-real}
+use Rattle.feed.proofs.CallReads.{record-whole}
+
+-- ---- numbers that fit
+
+pub record Fits (h : Hall) : Type 0 where
+  pub number : h .n ≤ lastCount
+  pub lesser : (m : ℕ) → m < moduleCount → (getD (h .banks) m noBank) .lesser ≤ mostQuantity
+
+-- the quantities of a record that carries them are at most 1,000
+abbrev pub Small : Record → Type 0
+Small (minor r) = Unit {0}
+Small (major r) = (m : ℕ) → m < moduleCount → (getD (r .quantities) m noQuantities) .fuel ≤ mostQuantity
+
+bank-small : (r : Record) (m : ℕ) (b : Bank) → m < moduleCount → Small r → b .lesser ≤ mostQuantity → (bankBy m r b) .lesser ≤ mostQuantity
+bank-small (minor r) m b l s h = h
+bank-small (major r) m b l s h =
+    let q : Quantities = getD (r .quantities) m noQuantities in
+    omega (arith, weighed-exactly q .smaller, s m l)
+
+step-fits : (r : Record) (h : Hall) → ProperHall h → Small r → Fits h → Fits ((stepped r h) .hall)
+unfolding stepped
+step-fits r h p s f = by (judged (h .n) ((common r) .wire) (majorKind r)) refl
+  where
+    by : (v : Verdict) → judged (h .n) ((common r) .wire) (majorKind r) ≡ v → Fits ((steppedBy v r h) .hall)
+    by (Takes next) e = record {
+      number = rw (number-after r next h) (takes-follows (h .n) ((common r) .wire) (majorKind r) next e .most);
+      lesser = λ m l. rw (bank-after r next h p m l) (bank-small r m (getD (h .banks) m noBank) l s (f .lesser m l));
+    }
+    by (Refuses a) e = f
+
+-- a whole record's quantities
+quantities-small : (r : List ℕ) → QuantitiesRight r → (m : ℕ) → m < moduleCount
+    → (getD (quantitiesOf moduleCount r) m noQuantities) .fuel ≤ mostQuantity
+unfolding quantitiesOf
+quantities-small r q m l =
+    let e : getD (quantitiesOf moduleCount r) m noQuantities ≡ quantitiesAt r (quantitiesFrom + quantitiesLength * m) =
+    each-at (λ k x. quantitiesAt r (quantitiesFrom + quantitiesLength * k)) noQuantities (replicate moduleCount noQuantities) moduleCount
+    m l (omega arith) in
+    let n : 601 + 2 * (2 * m) ≡ quantitiesFrom + quantitiesLength * m = omega arith in
+    rw e (subst (λ (i : ℕ). two r i ≤ 1000) n (q (2 * m) (omega arith)))
+
+small-values : (k : Kind) (r : List ℕ) → length r ≡ lengthOf k → WholeRecord r → Small (valuesOf k r)
+unfolding valuesOf majorOf lengthOf
+small-values NoKind r l w = tt
+small-values Minor r l w = tt
+small-values Major r l (inl w) = absurd (omega (arith, w .long))
+small-values Major r l (inr w) = λ m b. quantities-small r (w .quantities) m b
+
+record-small : (l : List ℕ) → (kindIn l ≡ NoKind → ⊥) → Small (valuesIn l)
+record-small l z = small-values (kindIn l) (recordIn l) (record-long l z) (record-whole l (is-real l z))
+
+-- ---- what is kept
+
+pub record Kept (masks : List Masks) (h : Hall) (ts : List TakenRecord) : Type 0 where
+  pub run : Run masks h ts
+  pub fits : Fits h
+
+-- the records taken, with the one that a call settled
+abbrev grown : Result → Record → List TakenRecord → List TakenRecord
+grown c r ts = cond (isTaken (c .outcome .answer)) (record { n = c .outcome .monitor .hall .n; values = r } ∷ ts) ts
+
+module _ (masks : List Masks) (m : Monitor) (piece out : List ℕ) (ts : List TakenRecord) (kept : Kept masks (m .hall) ts) where
+  abbrev After : Result → Type 0
+  After c = Kept masks (c .outcome .monitor .hall) (grown c (valuesIn (holds m ++ piece)) ts)
+
+  kept-by : (c : Result) → CallCase m piece out c → After c
+  kept-by c (none z) = kept
+  kept-by c (some z held used x short fits back same) =
+      let r : Record = valuesIn (holds m ++ piece) in
+      rw same (record {
+        run = run-step masks (m .hall) ts (kept .run) r;
+        fits = step-fits r (m .hall) (kept .run .proper) (record-small (holds m ++ piece) z) (kept .fits);
+      })
+
+  pub call-kept : After (call m piece out)
+  call-kept = by (below-or (length out) 34)
+    where
+      by : (length out < 34) ⊎ (34 ≤ length out) → After (call m piece out)
+      by (inl l) = rw (short-call m piece out l) kept
+      by (inr l) = rw (call-called m piece out l) (kept-by (called m piece out) (call-case m piece out))
+
+-- ---- from fresh over an accepted map
+
+fresh-fits : (masks : List Masks) → Fits (freshHall masks)
+unfolding freshHall
+fresh-fits masks = record {
+  number = omega arith;
+  lesser = λ m l. rw (getD-replicate moduleCount m noBank noBank l) (omega arith);
+}
+
+pub started-hall : (masks : List Masks) → refused stringCount masks ≡ false → (startedOver masks) .monitor .hall ≡ freshHall masks
+unfolding startedOver started
+started-hall masks e = rw e
+
+pub calls-kept : (masks : List Masks) → FitMap masks → refused stringCount masks ≡ false → (cs : List Made)
+    → Kept masks ((monitorAfter masks cs) .hall) (takenRecords masks cs)
+unfolding monitorAfter takenRecords
+calls-kept masks fit accepted [] =
+    rw (started-hall masks accepted) (record { run = run-fresh masks fit accepted; fits = fresh-fits masks })
+calls-kept masks fit accepted (c ∷ cs) =
+    call-kept masks (monitorAfter masks cs) (c .piece) (c .outbox) (takenRecords masks cs) (calls-kept masks fit accepted cs)

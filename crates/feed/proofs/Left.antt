@@ -1,0 +1,55 @@
+-- Demand 1 of a call: what monitor and outbox are after each answer. Assumes nothing.
+use mathlib.Core.Path.{_≡_, refl, sym, ap, _∙_}
+use mathlib.Core.List.{List, _++_}
+use mathlib.Core.Logic.{_⊎_, inl, inr}
+use Prim.Native.Nat.{ℕ, _<_, _≤_}
+use lib.ListN.{length, drop}
+use Rattle.cycle.specs.Numbers.{judged}
+use Rattle.cycle.specs.Records.{Record, majorKind, common}
+use Rattle.cycle.specs.Hall.{steppedBy, stepped}
+use Rattle.cycle.specs.declared.hall.Stepped.{Stepped}
+use Rattle.cycle.specs.declared.number.Verdict.{Verdict}
+use Rattle.cycle.proofs.Judgements.{Judgement, repeats, stale, ends, wrong, follows, judged-exactly}
+use Rattle.feed.specs.Report.{reportOf}
+use Rattle.feed.specs.Settled.{valuesIn}
+use Rattle.feed.specs.Answered.{Leaves}
+use Rattle.feed.specs.Call.{holds, holding, Result, called, call}
+use Rattle.feed.specs.declared.call.Monitor.{Monitor}
+use Rattle.feed.proofs.Lengths.{below-or}
+use Rattle.feed.proofs.Calling.{call-called}
+use Rattle.feed.proofs.CallCases.{CallCase, none, some, call-case}
+use Rattle.feed.proofs.Answered.{short-call}
+
+-- a settled record, by the hall's verdict on it
+abbrev result : Stepped → ℕ → List ℕ → List ℕ → Result
+result x used held out = record {
+  outcome = record { answer = x .answer; used = used; monitor = holding (x .hall) held };
+  outbox = reportOf (x .answer) (x .hall) ++ drop 34 out;
+}
+
+leaves-step : (m : Monitor) (piece out held : List ℕ) (used : ℕ) (x : Stepped) → x ≡ stepped (valuesIn (holds m ++ piece)) (m .hall)
+    → Leaves (x .answer) m piece out (result x used held out)
+unfolding stepped
+leaves-step m piece out held used x e = by (judged (m .hall .n) ((common r) .wire) (majorKind r)) (judged-exactly (m .hall .n) _ _) e
+  where
+    r : Record
+    r = valuesIn (holds m ++ piece)
+
+    by : (v : Verdict) → Judgement (m .hall .n) ((common r) .wire) (majorKind r) v → x ≡ steppedBy v r (m .hall)
+        → Leaves (x .answer) m piece out (result x used held out)
+    by v (repeats d) q = rw q (refl, refl)
+    by v (stale d) q = rw q (refl, refl)
+    by v (ends a b d) q = rw q (refl, refl)
+    by v (wrong a b d k) q = rw q (refl, refl)
+    by v (follows a b d k) q = rw q (sym (ap (λ (y : Stepped). y .hall) (sym e ∙ q)), refl)
+
+leaves-by : (m : Monitor) (piece out : List ℕ) (c : Result) → CallCase m piece out c → Leaves (c .outcome .answer) m piece out c
+leaves-by m piece out c (none z) = (refl, refl, refl)
+leaves-by m piece out c (some z held used x short fits back same) = leaves-step m piece out held used x same
+
+pub call-leaves : (m : Monitor) (piece out : List ℕ) → Leaves ((call m piece out) .outcome .answer) m piece out (call m piece out)
+call-leaves m piece out = by (below-or (length out) 34)
+  where
+    by : (length out < 34) ⊎ (34 ≤ length out) → Leaves ((call m piece out) .outcome .answer) m piece out (call m piece out)
+    by (inl l) = rw (short-call m piece out l) refl
+    by (inr l) = rw (call-called m piece out l) (leaves-by m piece out (called m piece out) (call-case m piece out))

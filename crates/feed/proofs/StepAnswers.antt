@@ -1,0 +1,102 @@
+-- The hall's answer to a record, by its bytes: each exactly as document 01's table says. Assumes nothing.
+use mathlib.Core.Path.{_≡_, refl, sym, ap, _∙_}
+use mathlib.Core.Bool.{Bool, true, false, not}
+use mathlib.Core.List.{List}
+use mathlib.Core.Logic.{inl, inr}
+use Prim.Native.Nat.{ℕ, _+_, _%_, _<_, _≤_}
+use native.Mathlib.Omega.{arith}
+use borrow.Author.Tests.{eq-eqb, ne-eqb}
+use lib.Dec.{ltb}
+use lib.ListN.{length}
+use Rattle.cycle.specs.Numbers.{distance, isMajor, judged, following}
+use Rattle.cycle.specs.Records.{Record, majorKind, common}
+use Rattle.cycle.specs.Hall.{steppedBy, stepped}
+use Rattle.cycle.specs.declared.answer.Answer.the-variants.{Taken, Stale, Repeat, CountEnded, WrongKind}
+use Rattle.cycle.specs.declared.hall.Hall.{Hall}
+use Rattle.cycle.specs.declared.hall.Stepped.{Stepped}
+use Rattle.cycle.specs.declared.number.Verdict.{Verdict}
+use Rattle.cycle.specs.declared.number.Verdict.the-variants.{Takes, Refuses}
+use Rattle.cycle.proofs.Numbers.{judged-repeat, judged-stale, judged-follows, follows-ended, follows-wrong, follows-right}
+use Rattle.feed.specs.Format.{lengthOf}
+use Rattle.feed.specs.Values.{valuesOf, majorOfKinds}
+use Rattle.feed.specs.Answered.{apart, Ahead, Crossed, Matched}
+use Rattle.feed.specs.declared.format.Kind.{Kind}
+use Rattle.feed.specs.declared.format.Kind.the-variants.{NoKind, Minor, Major}
+use Rattle.feed.proofs.Cutting.{wire-of}
+
+major-of : (k : Kind) (r : List ℕ) → majorKind (valuesOf k r) ≡ majorOfKinds k
+unfolding valuesOf
+major-of NoKind r = refl
+major-of Minor r = refl
+major-of Major r = refl
+
+minor-not-major : (k : Kind) → lengthOf k ≡ 59 → majorOfKinds k ≡ false
+unfolding lengthOf
+minor-not-major NoKind e = refl
+minor-not-major Minor e = refl
+minor-not-major Major e = absurd (omega arith)
+
+major-is-major : (k : Kind) → lengthOf k ≡ 615 → majorOfKinds k ≡ true
+unfolding lengthOf
+major-is-major NoKind e = absurd (omega arith)
+major-is-major Minor e = absurd (omega arith)
+major-is-major Major e = refl
+
+module _ (h : Hall) (k : Kind) (r : List ℕ) (long : length r ≡ lengthOf k) where
+  abbrev pub values : Record
+  values = valuesOf k r
+
+  far : distance (h .n) ((common values) .wire) ≡ apart (h .n) r
+  far = ap (λ (w : ℕ). distance (h .n) w) (wire-of k r)
+
+  answered : (v : Verdict) → judged (h .n) ((common values) .wire) (majorKind values) ≡ v → stepped values h ≡ steppedBy v values h
+  unfolding stepped
+  answered v e = ap (λ (x : Verdict). steppedBy x values h) e
+
+  pub repeat-step : apart (h .n) r ≡ 0 → (stepped values h) .answer ≡ Repeat
+  repeat-step e = ap (λ (x : Stepped). x .answer) (answered (Refuses Repeat) (judged-repeat (h .n) _ _ (far ∙ e)))
+
+  pub stale-step : 32768 ≤ apart (h .n) r → (stepped values h) .answer ≡ Stale
+  stale-step e = ap (λ (x : Stepped). x .answer) (answered (Refuses Stale) (judged-stale (h .n) _ _ (rw far e)))
+
+  -- neither stale nor a repeat
+  abbrev d : ℕ
+  d = distance (h .n) ((common values) .wire)
+
+  module _ (ahead : Ahead (h .n) r) where
+    after : judged (h .n) ((common values) .wire) (majorKind values) ≡ following (h .n) d (ltb 1 d) (majorKind values)
+    after = judged-follows (h .n) _ _ (rw far (ahead .notRepeat)) (rw far (ahead .notStale))
+
+    pub ended-step : 4294967295 < h .n + apart (h .n) r → (stepped values h) .answer ≡ CountEnded
+    ended-step e =
+        ap (λ (x : Stepped). x .answer)
+        (answered (Refuses CountEnded) (after ∙ follows-ended (h .n) d (ltb 1 d) (majorKind values) (rw far e)))
+
+    kind-by : (b : Bool) → majorOfKinds k ≡ b → majorKind values ≡ b
+    kind-by b e = major-of k r ∙ e
+
+    multiple : (new : ℕ) → new % 25 ≡ 0 → isMajor new ≡ true
+    unfolding isMajor
+    multiple new e = eq-eqb (new % 25) 0 e
+
+    no-multiple : (new : ℕ) → (new % 25 ≡ 0 → ⊥) → isMajor new ≡ false
+    unfolding isMajor
+    no-multiple new e = ne-eqb (new % 25) 0 e
+
+    pub wrong-step : h .n + apart (h .n) r ≤ 4294967295 → Crossed (h .n + apart (h .n) r) r → (stepped values h) .answer ≡ WrongKind
+    wrong-step l crossed =
+        ap (λ (x : Stepped). x .answer)
+        (answered (Refuses WrongKind) (after ∙ follows-wrong (h .n) d (ltb 1 d) (majorKind values) (rw far l) (by crossed)))
+      where
+        by : Crossed (h .n + apart (h .n) r) r → isMajor (h .n + d) ≡ not (majorKind values)
+        by (inl (e, n)) = rw (far, kind-by false (minor-not-major k (sym long ∙ n))) (multiple (h .n + apart (h .n) r) e)
+        by (inr (e, n)) = rw (far, kind-by true (major-is-major k (sym long ∙ n))) (no-multiple (h .n + apart (h .n) r) e)
+
+    pub right-step : h .n + apart (h .n) r ≤ 4294967295 → Matched (h .n + apart (h .n) r) r → (stepped values h) .answer ≡ Taken
+    right-step l matched =
+        ap (λ (x : Stepped). x .answer)
+        (answered (Takes _) (after ∙ follows-right (h .n) d (ltb 1 d) (majorKind values) (rw far l) (by matched)))
+      where
+        by : Matched (h .n + apart (h .n) r) r → isMajor (h .n + d) ≡ majorKind values
+        by (inl (e, n)) = rw (far, kind-by true (major-is-major k (sym long ∙ n))) (multiple (h .n + apart (h .n) r) e)
+        by (inr (e, n)) = rw (far, kind-by false (minor-not-major k (sym long ∙ n))) (no-multiple (h .n + apart (h .n) r) e)

@@ -1,0 +1,98 @@
+-- 01, "Which answer a record gets": the condition of each answer of a call, by the record r that it settles (its bytes, none where it
+-- settles none), the cycle number n and the room in the outbox; and what the call leaves. The numbers are written as document 01
+-- writes them. Assumes nothing.
+use mathlib.Core.Path.{_≡_}
+use mathlib.Core.List.{List, [], _++_}
+use mathlib.Core.Logic.{_⊎_, _↔_}
+use Prim.Native.Nat.{ℕ, _+_, _-_, _*_, _%_, _<_, _≤_}
+use lib.ListN.{length, getD, take, drop, replicate}
+use Rattle.cycle.specs.Size.{stringCount}
+use Rattle.cycle.specs.Map.{noMasks}
+use Rattle.cycle.specs.Hall.{freshHall, stepped}
+use Rattle.cycle.specs.Proper.{TwoMasks}
+use Rattle.cycle.specs.declared.answer.Answer.{Answer}
+use Rattle.cycle.specs.declared.answer.Answer.the-variants.{Taken, Stale, Repeat, CountEnded, WrongKind, OutboxShort, MapRefused}
+use Rattle.cycle.specs.declared.answer.Answer.the-variants.{NothingSettled}
+use Rattle.cycle.specs.declared.map.Masks.{Masks}
+use Rattle.feed.specs.Good.{WholeRecord}
+use Rattle.feed.specs.Settled.{recordIn, valuesIn}
+use Rattle.feed.specs.Report.{reportOf}
+use Rattle.feed.specs.Call.{holds, holding, Result}
+use Rattle.feed.specs.declared.call.Monitor.{Monitor}
+use Rattle.feed.specs.declared.call.Outcome.{Outcome}
+
+-- ---- when
+
+-- "d is the wire cycle less the lowest 16 bits of n, modulo 65,536"
+abbrev pub apart : ℕ → List ℕ → ℕ
+apart n r = (getD r 2 0 * 256 + getD r 3 0 + (65536 - n % 65536)) % 65536
+
+-- a record is settled that is neither stale nor a repeat
+pub record Ahead (n : ℕ) (r : List ℕ) : Type 0 where
+  pub settled : 0 < length r
+  pub notRepeat : 0 < apart n r
+  pub notStale : apart n r < 32768
+
+-- "new n is a multiple of 25 and the record is minor, or the reverse"
+abbrev pub Crossed : ℕ → List ℕ → Type 0
+Crossed new r = ((new % 25 ≡ 0) × (length r ≡ 59)) ⊎ ((new % 25 ≡ 0 → ⊥) × (length r ≡ 615))
+
+abbrev pub Matched : ℕ → List ℕ → Type 0
+Matched new r = ((new % 25 ≡ 0) × (length r ≡ 615)) ⊎ ((new % 25 ≡ 0 → ⊥) × (length r ≡ 59))
+
+-- column "when", "answer 5 is tested before anything else in a call; then 1 or 2, then 3, then 4"
+abbrev pub Condition : Answer → ℕ → ℕ → List ℕ → Type 0
+Condition Taken n room r = (34 ≤ room) × Ahead n r × (n + apart n r ≤ 4294967295) × Matched (n + apart n r) r
+Condition Stale n room r = (34 ≤ room) × (0 < length r) × (32768 ≤ apart n r)
+Condition Repeat n room r = (34 ≤ room) × (0 < length r) × (apart n r ≡ 0)
+Condition CountEnded n room r = (34 ≤ room) × Ahead n r × (4294967295 < n + apart n r)
+Condition WrongKind n room r = (34 ≤ room) × Ahead n r × (n + apart n r ≤ 4294967295) × Crossed (n + apart n r) r
+Condition OutboxShort n room r = room < 34
+Condition MapRefused n room r = ⊥
+Condition NothingSettled n room r = (34 ≤ room) × (r ≡ [])
+
+-- ---- what is left
+
+-- "as before" and "report"
+abbrev pub Refused : Answer → Monitor → List ℕ → Result → Type 0
+Refused a m out c = (c .outcome .monitor .hall ≡ m .hall) × (c .outbox ≡ reportOf a (m .hall) ++ drop 34 out)
+
+-- columns "monitor" and "outbox"; "bytes after the 34th keep their values"
+abbrev pub Leaves : Answer → Monitor → List ℕ → List ℕ → Result → Type 0
+Leaves Taken m piece out c =
+    (c .outcome .monitor .hall ≡ (stepped (valuesIn (holds m ++ piece)) (m .hall)) .hall)
+    × (c .outbox ≡ reportOf Taken (c .outcome .monitor .hall) ++ drop 34 out)
+Leaves Stale m piece out c = Refused Stale m out c
+Leaves Repeat m piece out c = Refused Repeat m out c
+Leaves CountEnded m piece out c = Refused CountEnded m out c
+Leaves WrongKind m piece out c = Refused WrongKind m out c
+Leaves OutboxShort m piece out c =
+    c ≡ record { outcome = record { answer = OutboxShort; used = 0; monitor = m }; outbox = out }
+Leaves MapRefused m piece out c = ⊥
+Leaves NothingSettled m piece out c =
+    (c .outcome .monitor .hall ≡ m .hall) × (c .outcome .used ≡ length piece) × (c .outbox ≡ out)
+
+-- The reader after a call that is not answered 5: what was held and what was used of the piece is bytes dropped, the record settled, and
+-- the bytes held then, with zeros behind them; the record is whole; every byte dropped stood where no whole record starts; and the call
+-- stopped at the very byte that settled the record: "exactly those up to the one that settled the record, none if held bytes did, or all".
+pub record Read (m : Monitor) (piece : List ℕ) (c : Result) : Type 0 where
+  pub dropped : List ℕ
+  pub held : List ℕ
+  pub parts : holds m ++ take (c .outcome .used) piece ≡ dropped ++ (recordIn (holds m ++ piece) ++ held)
+  pub store : c .outcome .monitor ≡ holding (c .outcome .monitor .hall) held
+  pub short : length held ≤ 614
+  pub whole : (recordIn (holds m ++ piece) ≡ []) ⊎ WholeRecord (recordIn (holds m ++ piece))
+  pub noneLost : (i : ℕ) → i < length dropped → (r rest : List ℕ) → drop i (holds m ++ piece) ≡ r ++ rest → WholeRecord r → ⊥
+  pub within : c .outcome .used ≤ length piece
+  pub settles : recordIn (holds m ++ take (c .outcome .used) piece) ≡ recordIn (holds m ++ piece)
+  pub notBefore : (u : ℕ) → u < c .outcome .used → recordIn (holds m ++ take u piece) ≡ []
+
+-- ---- starting
+
+-- "6 map: two masks of a string overlap: a fresh one over the empty map"; else a fresh one over the map, and the answer 0
+pub record Starts (masks : List Masks) (x : Outcome) : Type 0 where
+  pub refused : (x .answer ≡ MapRefused) ↔ TwoMasks masks
+  pub accepted : (x .answer ≡ Taken) ↔ (TwoMasks masks → ⊥)
+  pub emptied : TwoMasks masks → x .monitor ≡ holding (freshHall (replicate stringCount noMasks)) []
+  pub fresh : (TwoMasks masks → ⊥) → x .monitor ≡ holding (freshHall masks) []
+  pub used : x .used ≡ 0

@@ -1,0 +1,36 @@
+-- Demand 3, close: when a manifold's close command is in a report, and when it first appears. The manifold is number i of string s, its
+-- jets are `mask`; lists are the newest first. Assumes nothing.
+use mathlib.Core.Path.{_≡_}
+use mathlib.Core.Bool.{true}
+use mathlib.Core.List.{List, [], _∷_}
+use Prim.Native.Nat.{ℕ, _+_, _*_, _<_}
+use lib.ListN.{getD}
+use Rattle.bits.specs.Bit.{bit}
+use Rattle.cycle.specs.Size.{jetCount}
+use Rattle.cycle.specs.Views.{jetRecord}
+use Rattle.cycle.specs.Close.{Third}
+use Rattle.cycle.specs.Runs.{TakenRecord, jetHistory, JetThird}
+use Rattle.cycle.specs.declared.answer.Answer.the-variants.{Taken}
+use Rattle.cycle.specs.declared.map.Masks.{Masks}
+use Rattle.feed.specs.Calls.{Made, answerOf, reportIn}
+
+-- the report of the call c, made after the calls cs, has the close command
+abbrev pub Shows : List Masks → ℕ → ℕ → Made → List Made → Type 0
+Shows masks s i c cs = bit i (getD (reportIn masks c cs) (7 + 5 * s + 4) 0) ≡ true
+
+-- no report of these calls that answers 'taken' has it
+abbrev pub NeverShown : List Masks → ℕ → ℕ → List Made → Type 0
+NeverShown masks s i [] = Unit {0}
+NeverShown masks s i (c ∷ cs) = (answerOf masks c cs ≡ Taken → Shows masks s i c cs → ⊥) × NeverShown masks s i cs
+
+-- at the record t, taken after ts, one of the manifold's jets "has been bad at that and the two major cycles before", as demand 3 words it
+pub record ThirdNow (mask s i : ℕ) (t : TakenRecord) (ts : List TakenRecord) : Type 0 where
+  pub jet : ℕ
+  pub inWord : jet < jetCount
+  pub inMask : bit jet mask ≡ true
+  pub third : Third (jetRecord (t .n) s i jet (t .values)) (jetHistory s i jet ts)
+
+-- the newest of the records taken is "the earliest major cycle in which" this is so
+abbrev pub Earliest : ℕ → ℕ → ℕ → List TakenRecord → Type 0
+Earliest mask s i [] = ⊥
+Earliest mask s i (t ∷ ts) = ThirdNow mask s i t ts × (JetThird mask s i ts → ⊥)

@@ -1,0 +1,39 @@
+-- 01, "The feed": what a whole record is, by its bytes alone. The numbers are written as document 01 writes them. Assumes nothing.
+use mathlib.Core.Path.{_≡_}
+use mathlib.Core.List.{List}
+use mathlib.Core.Logic.{_⊎_}
+use Prim.Native.Nat.{ℕ, _+_, _-_, _*_, _%_, _≤_, _<_}
+use lib.ListN.{length, getD, take}
+use Rattle.feed.specs.Bytes.{two}
+use Rattle.feed.specs.Format.{total}
+
+-- "path byte (..; bits 4 to 7 zero); for each string 13 bytes: .. valve-open V (1; .., bits 4 to 7 zero)"
+pub record ReservedZero (r : List ℕ) : Type 0 where
+  pub path : getD r 4 0 < 16
+  pub valves : (s : ℕ) → s < 4 → getD r (5 + 13 * s + 12) 0 < 16
+
+-- "sum, 2 bytes: all earlier bytes of the record, mark included, added modulo 65,536"
+abbrev pub SumRight : List ℕ → Type 0
+SumRight r = two r (length r - 2) ≡ total (take (length r - 2) r) % 65536
+
+-- "for each module fuel then oxidizer, 2 bytes each, in tenths of a percent, at most 1,000"
+abbrev pub QuantitiesRight : List ℕ → Type 0
+QuantitiesRight r = (i : ℕ) → i < 6 → two r (601 + 2 * i) ≤ 1000
+
+-- "Minor record, 59 bytes: mark 52 4D (hex)"
+pub record MinorRecord (r : List ℕ) : Type 0 where
+  pub long : length r ≡ 59
+  pub mark : (getD r 0 0 ≡ 0x52) × (getD r 1 0 ≡ 0x4D)
+  pub sum : SumRight r
+  pub reserved : ReservedZero r
+
+-- "Major record, 615 bytes: mark 52 4A"
+pub record MajorRecord (r : List ℕ) : Type 0 where
+  pub long : length r ≡ 615
+  pub mark : (getD r 0 0 ≡ 0x52) × (getD r 1 0 ≡ 0x4A)
+  pub sum : SumRight r
+  pub reserved : ReservedZero r
+  pub quantities : QuantitiesRight r
+
+abbrev pub WholeRecord : List ℕ → Type 0
+WholeRecord r = MinorRecord r ⊎ MajorRecord r

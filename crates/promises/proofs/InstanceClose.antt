@@ -1,0 +1,117 @@
+-- The instance of the close theorems: in both feeds the close bit of manifold 0 of string 0 is in the report of record 75, and in no
+-- report before it that answers 0; by the theorems record 75 is the earliest major cycle in which one of the manifold's jets has been
+-- bad three times as demand 3 words it. Assumes nothing.
+use mathlib.Core.Path.{_≡_, refl, sym, ap, _∙_}
+use mathlib.Core.Bool.{Bool, true, false, _&&_}
+use mathlib.Core.List.{List, [], _∷_}
+use Prim.Native.Nat.{ℕ, zero, suc, _+_, _*_, _<_, _^_}
+use native.Mathlib.Omega.{arith}
+use native.Mathlib.Bridge.{le-by-compare, IsLe}
+use lib.ListN.{getD, take}
+use Rattle.bits.specs.Bit.{bit, wordBits}
+use Rattle.bits.proofs.Yes.{not-both, and-both}
+use Rattle.cycle.specs.Answers.{isTaken, writesReport}
+use Rattle.cycle.specs.Proper.{FitMap}
+use Rattle.cycle.specs.Runs.{JetThird}
+use Rattle.cycle.specs.declared.answer.Answer.the-variants.{Taken}
+use Rattle.feed.specs.Size.{reportLength}
+use Rattle.feed.specs.Call.{Result}
+use Rattle.feed.specs.Calls.{answerOf, takenRecords}
+use Rattle.feed.specs.CloseShown.{Shows, NeverShown, Earliest}
+use Rattle.feed.proofs.CloseFirst.{close-shown, close-never, close-first}
+use Rattle.promises.specs.NightRecords.{nightMap}
+use Rattle.promises.specs.Instance.{majorBytes}
+use Rattle.promises.specs.InstanceCalls.{handing, Exchanged, madeOf, Given, feedTo50, longerTo50, Appears}
+use Rattle.promises.proofs.InstanceSteps.{night-accepted}
+use Rattle.promises.proofs.InstanceGiven.{feed-given, longer-given}
+
+-- ---- the map
+
+-- a manifold without jets
+quiet : (i : ℕ) → getD (0 ∷ 0 ∷ 0 ∷ 0 ∷ []) i 0 < 2 ^ wordBits
+unfolding IsLe
+quiet zero = le-by-compare 1 0x100000000 tt
+quiet (suc zero) = le-by-compare 1 0x100000000 tt
+quiet (suc (suc zero)) = le-by-compare 1 0x100000000 tt
+quiet (suc (suc (suc zero))) = le-by-compare 1 0x100000000 tt
+quiet (suc (suc (suc (suc i)))) = le-by-compare 1 0x100000000 tt
+
+pub night-fits : FitMap nightMap
+unfolding IsLe
+night-fits zero zero l m = le-by-compare 0x10 0x100000000 tt
+night-fits zero (suc i) l m = quiet (suc i)
+night-fits (suc zero) i l m = quiet i
+night-fits (suc (suc zero)) i l m = quiet i
+night-fits (suc (suc (suc zero))) i l m = quiet i
+night-fits (suc (suc (suc (suc s)))) i l m = absurd (omega arith)
+
+-- ---- the reports
+
+-- in what a call gave back: is the answer 0, and the close bit of manifold 0 of string 0
+abbrev takenIn : Result → Bool
+takenIn r = isTaken (r .outcome .answer)
+
+abbrev closeIn : Result → Bool
+closeIn r = bit 0 (getD (take reportLength (r .outbox)) (7 + 5 * 0 + 4) 0)
+
+abbrev Unseen : List Exchanged → Type 0
+Unseen [] = Unit {0}
+Unseen (x ∷ xs) = ((takenIn (x .result) && closeIn (x .result)) ≡ false) × Unseen xs
+
+never-by : (xs : List Exchanged) → Given xs → Unseen xs → NeverShown nightMap 0 0 (madeOf xs)
+never-by [] g u = tt
+never-by (x ∷ xs) g u = (λ a s. by a s, never-by xs (g .1) (u .1))
+  where
+    by : answerOf nightMap (handing (x .piece)) (madeOf xs) ≡ Taken → Shows nightMap 0 0 (handing (x .piece)) (madeOf xs) → ⊥
+    by a s =
+        not-both (takenIn (x .result) && closeIn (x .result))
+        (and-both (takenIn (x .result)) (closeIn (x .result)) (ap takenIn (sym (g .0)) ∙ ap isTaken a) (ap closeIn (sym (g .0)) ∙ s))
+        (u .0)
+
+pub feed-close : Appears feedTo50
+unfolding bit
+feed-close =
+    let g = feed-given .0 .1 in
+    record {
+      answer = ap (λ (r : Result). r .outcome .answer) (g .0);
+      shown = ap closeIn (g .0);
+      never = never-by feedTo50 (g .1) (refl, (refl, (refl, (refl, tt))));
+    }
+
+pub longer-close : Appears longerTo50
+unfolding bit
+longer-close =
+    let g = longer-given .0 .1 in
+    record {
+      answer = ap (λ (r : Result). r .outcome .answer) (g .0);
+      shown = ap closeIn (g .0);
+      never = never-by longerTo50 (g .1) (refl, (refl, (refl, (refl, (refl, (refl, tt))))));
+    }
+
+-- ---- the theorems' instances
+
+first : 0 < 4
+unfolding IsLe
+first = le-by-compare 1 4 tt
+
+earliest-by : (xs : List Exchanged) → Appears xs
+    → Earliest 0x0000000F 0 0 (takenRecords nightMap (handing (majorBytes 75) ∷ madeOf xs))
+earliest-by xs x =
+    close-first nightMap night-fits night-accepted 0 0 first first (handing (majorBytes 75)) (madeOf xs) (x .answer) .0
+    (x .shown, x .never)
+
+pub feed-earliest : Earliest 0x0000000F 0 0 (takenRecords nightMap (handing (majorBytes 75) ∷ madeOf feedTo50))
+feed-earliest = earliest-by feedTo50 feed-close
+
+pub longer-earliest : Earliest 0x0000000F 0 0 (takenRecords nightMap (handing (majorBytes 75) ∷ madeOf longerTo50))
+longer-earliest = earliest-by longerTo50 longer-close
+
+-- one of the manifold's jets has been bad so up to record 75
+pub third-by-75 : JetThird 0x0000000F 0 0 (takenRecords nightMap (handing (majorBytes 75) ∷ madeOf feedTo50))
+third-by-75 =
+    close-shown nightMap night-fits night-accepted 0 0 first first (handing (majorBytes 75)) (madeOf feedTo50)
+    (ap writesReport (feed-close .answer)) .0 (feed-close .shown)
+
+-- and none up to record 50
+pub none-by-50 : JetThird 0x0000000F 0 0 (takenRecords nightMap (madeOf feedTo50)) → ⊥
+none-by-50 = close-never nightMap night-fits night-accepted 0 0 first first (madeOf feedTo50) .0 (feed-close .never)

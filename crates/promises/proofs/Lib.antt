@@ -1,0 +1,16 @@
+pub mod OutcomesSplit
+pub mod UniqueBits
+pub mod UniqueCycleRules
+pub mod UniqueCycleString
+pub mod UniqueCycleHall
+pub mod UniqueFeedReader
+pub mod UniqueFeedCall
+pub mod Nights
+pub mod InstanceReads
+pub mod InstanceSteps
+pub mod InstanceCalls
+pub mod InstanceGiven
+pub mod InstanceFinished
+pub mod InstanceCut
+pub mod InstanceClose
+pub mod Promises

@@ -1,0 +1,35 @@
+-- 01, "What each claim has to tie down": one outcome for each step of the hall. Assumes nothing.
+use mathlib.Core.Path.{refl, sym, _∙_}
+use Rattle.promises.specs.Outcomes.{OneOutcome}
+use Rattle.cycle.proofs.hall.«minor_strings» as minor-strings
+use Rattle.cycle.proofs.hall.«major_strings» as major-strings
+use Rattle.cycle.proofs.hall.Hall.fresh as hall-fresh
+use Rattle.cycle.proofs.hall.Hall.«minor_taken» as hall-minor-taken
+use Rattle.cycle.proofs.hall.Hall.«major_taken» as hall-major-taken
+use Rattle.cycle.proofs.hall.Hall.minor as hall-minor
+use Rattle.cycle.proofs.hall.Hall.major as hall-major
+use Rattle.cycle.proofs.hall.start as start
+
+pub minor-strings-one : OneOutcome minor-strings.ended minor-strings.Reads.Post
+minor-strings-one κs a x x′ w w′ p q = (p ∙ sym q, refl)
+
+pub major-strings-one : OneOutcome major-strings.ended major-strings.Reads.Post
+major-strings-one κs a x x′ w w′ p q = (p ∙ sym q, refl)
+
+pub hall-fresh-one : OneOutcome hall-fresh.ended hall-fresh.Reads.Post
+hall-fresh-one κs a x x′ w w′ p q = (p ∙ sym q, refl)
+
+pub hall-minor-taken-one : OneOutcome hall-minor-taken.ended hall-minor-taken.Reads.Post
+hall-minor-taken-one κs a x x′ w w′ p q = (p ∙ sym q, refl)
+
+pub hall-major-taken-one : OneOutcome hall-major-taken.ended hall-major-taken.Reads.Post
+hall-major-taken-one κs a x x′ w w′ p q = (p ∙ sym q, refl)
+
+pub hall-minor-one : OneOutcome hall-minor.ended hall-minor.Reads.Post
+hall-minor-one κs a x x′ w w′ p q = (p ∙ sym q, refl)
+
+pub hall-major-one : OneOutcome hall-major.ended hall-major.Reads.Post
+hall-major-one κs a x x′ w w′ p q = (p ∙ sym q, refl)
+
+pub start-one : OneOutcome start.ended start.Reads.Post
+start-one κs a x x′ w w′ p q = (p ∙ sym q, refl)

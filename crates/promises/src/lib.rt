@@ -1,0 +1,1 @@
+// The promises: no code.
