@@ -3,11 +3,14 @@
 
 clean: records of the right kind, one after the other, all four strings mapped; 90,000 are an hour.
 noise: random bytes. marks: nothing but the mark of a major record, over and over."""
+import pathlib
 import random
-import struct
 import sys
 
-MASKS = [0x000000FF, 0x0000FF00, 0x00FF0000, 0xFF000000]
+sys.path.append(str(pathlib.Path(__file__).resolve().parent.parent / "tests/nights"))
+from records import ALL_OPEN, JETS, MAJOR_EVERY, MODULES, STRINGS, map_bytes, major, minor
+
+MASKS = [[0x000000FF, 0x0000FF00, 0x00FF0000, 0xFF000000]] * STRINGS
 
 
 def string(rng):
@@ -16,28 +19,26 @@ def string(rng):
     pressure = commanded
     if rng.random() < 0.02:
         pressure &= ~(1 << rng.randrange(32))
-    return struct.pack(">IIIB", commanded, pressure, commanded, 15)
+    return commanded, pressure, commanded, ALL_OPEN
 
 
-def record(cycle, rng):
-    major = cycle % 25 == 0
-    body = (b"\x52\x4A" if major else b"\x52\x4D") + struct.pack(">HB", cycle % 65536, 0)
-    body += b"".join(string(rng) for _ in range(4))
-    if major:
-        body += b"".join(struct.pack(">H", rng.randrange(100, 900)) for _ in range(256))
-        body += bytes(32)
-        body += b"".join(struct.pack(">H", 500 + rng.randrange(20)) for _ in range(6))
-    return body + struct.pack(">H", sum(body) % 65536)
+def busy(cycle, rng):
+    strings = {s: string(rng) for s in range(STRINGS)}
+    if cycle % MAJOR_EVERY:
+        return minor(cycle, strings=strings)
+    temps = {(s, j): (rng.randrange(100, 900), rng.randrange(100, 900)) for s in range(STRINGS) for j in range(JETS)}
+    banks = {m: (500 + rng.randrange(20), 500 + rng.randrange(20)) for m in range(MODULES)}
+    return major(cycle, strings=strings, temps=temps, banks=banks)
 
 
 def main():
     kind, amount = sys.argv[1], int(sys.argv[2])
     rng = random.Random(7)
     out = sys.stdout.buffer
-    out.write(struct.pack(">4I", *MASKS) * 4)
+    out.write(map_bytes(MASKS))
     if kind == "clean":
         for cycle in range(1, amount + 1):
-            out.write(record(cycle, rng))
+            out.write(busy(cycle, rng))
     elif kind == "noise":
         out.write(rng.randbytes(amount))
     elif kind == "marks":

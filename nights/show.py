@@ -26,16 +26,19 @@ def seen(report):
 
 
 def main():
-    before = seen(bytes(34))
+    sys.stdout.reconfigure(line_buffering=True)  # a live feed is shown as it comes
+    before, last = seen(bytes(34)), 0
     while len(report := sys.stdin.buffer.read(34)) == 34:
         answer, n = struct.unpack_from(">BI", report, 2)
         if answer:
             print(f"cycle {n}: a record was not taken: {answer}, {ANSWERS.get(answer, 'unknown')}")
+        if n > last + 1:
+            print(f"cycle {n}: cycles not heard before it: {n - last - 1}")
         now = seen(report)
         for name, value in now.items():
             if value != before[name]:
                 print(f"cycle {n}: {name}: {value}")
-        before = now
+        before, last = now, n
 
 
 main()

@@ -6,23 +6,20 @@ piece's length (2), the piece, the outbox's length (1) and its contents. Numbers
 crates/calls/stdout is what the reference says to it: tests/reference, `ref_calls < crates/calls/stdin`. It is never made by `calls`."""
 import sys
 
+import records
+from records import ALL_OPEN, map_bytes
+
 STORE = 615
 LAST = 4294967295
 # string 0, manifold 0 = 0000000F, others zero
-MAP = bytes.fromhex("0000000F") + bytes(60)
+MAP = map_bytes([[0x0000000F, 0, 0, 0], [0] * 4, [0] * 4, [0] * 4])
 # string 0, manifolds 0 and 1 share jet 3
-REFUSED = bytes.fromhex("0000000F" "00000008") + bytes(56)
-
-
-def summed(record):
-    return record + (sum(record) % 65536).to_bytes(2, "big")
+REFUSED = map_bytes([[0x0000000F, 0x00000008, 0, 0], [0] * 4, [0] * 4, [0] * 4])
 
 
 def minor(wire, commanded=0):
-    """A minor record with the valves open: string 0 has these jets commanded, and nothing else is on."""
-    quiet = bytes(8) + b"\x0F"
-    strings = commanded.to_bytes(4, "big") + quiet + (bytes(4) + quiet) * 3
-    return summed(b"\x52\x4D" + wire.to_bytes(2, "big") + b"\0" + strings)
+    """String 0 has these jets commanded, and nothing else is on."""
+    return records.minor(wire, strings={0: (commanded, 0, 0, ALL_OPEN)})
 
 
 def outbox(length):

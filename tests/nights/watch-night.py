@@ -3,33 +3,15 @@
 
 String 0 has four jets on manifold 0 and four on manifold 1; string 1 has one jet on manifold 3.
 """
-import struct
 import sys
+
+from records import map_bytes, record
 
 MASKS = [[0x0000000F, 0x000000F0, 0, 0], [0, 0, 0, 0x80000000], [0] * 4, [0] * 4]
 
 
-def record(cycle, path=0, strings=None, temps=None, requests=None, banks=None):
-    """A record of the right kind for its cycle; strings: {s: (C, P, D, V)}."""
-    major = cycle % 25 == 0
-    r = bytearray(b"\x52\x4A" if major else b"\x52\x4D")
-    r += struct.pack(">HB", cycle % 65536, path)
-    for s in range(4):
-        c, p, d, v = (strings or {}).get(s, (0, 0, 0, 15))
-        r += struct.pack(">IIIB", c, p, d, v)
-    if major:
-        for s in range(4):
-            for j in range(32):
-                r += struct.pack(">HH", *(temps or {}).get((s, j), (64, 64)))
-        for s in range(4):
-            r += struct.pack(">II", *(requests or {}).get(s, (0, 0)))
-        for m in range(3):
-            r += struct.pack(">HH", *(banks or {}).get(m, (500, 500)))
-    return bytes(r + struct.pack(">H", sum(r) % 65536))
-
-
 def night():
-    out = [b"".join(struct.pack(">I", m) for s in MASKS for m in s)]
+    out = [map_bytes(MASKS)]
     for cycle in range(1, 251):
         strings, path, temps, requests, banks = {}, 0, {}, {}, {}
         if 3 <= cycle <= 5:

@@ -7,7 +7,7 @@ use reference::hall::Masks;
 use reference::process::Running;
 use reference::random::Random;
 use reference::record::{Record, MAJOR, MARK};
-use reference::report::Report;
+use reference::report::{Report, REPORT_LENGTH};
 use reference::score::{same, Score};
 use reference::Monitor;
 use std::io::Write;
@@ -183,20 +183,27 @@ fn long_run(watch: &str, records: u64) -> Outcome {
     let mut night = Night::after(0, Random(96));
     let mut sent = night.clone();
     let writer = thread::spawn(move || {
-        let mut looks = Vec::new();
+        let (mut looks, mut bytes) = (Vec::new(), 0);
         for number in 0..records {
             if number % (records / LOOKS).max(1) == 0 {
-                looks.extend(resident_kilobytes(id));
+                looks.extend(peak_kilobytes(id));
             }
+            let step = sent.step();
+            bytes += step.len();
             // It fails only if the program has ended, which is seen below.
-            let _ = input.write_all(&sent.step());
+            let _ = input.write_all(&step);
         }
-        looks
+        (looks, bytes)
     });
-    let mut outcome = (0..records).try_for_each(|_| pair.receive(&night.step()).map(drop));
+    let mut reports = 0;
+    let mut outcome = (0..records).try_for_each(|_| {
+        reports += pair.receive(&night.step())?.len() / REPORT_LENGTH;
+        Ok(())
+    });
     outcome = outcome.and_then(|()| pair.finish(Vec::new()));
     drop(pair);
-    let looks = writer.join().map_err(|_| "the writing thread broke off")?;
+    let (looks, bytes) = writer.join().map_err(|_| "the writing thread broke off")?;
+    println!("long run: {records} good records, {bytes} bytes, {reports} reports");
     outcome.and_then(|()| stays_small(&looks))
 }
 
@@ -205,15 +212,15 @@ fn stays_small(looks: &[u64]) -> Outcome {
     let settled = &looks[looks.len() / 4..];
     let (least, most) = (settled.iter().min(), settled.iter().max());
     let (least, most) = least.zip(most).ok_or("its memory was never seen")?;
-    println!("resident memory: {least} to {most} kB, seen {} times", looks.len());
+    println!("peak resident memory: {least} to {most} kB, seen {} times", looks.len());
     match *most <= MOST_KILOBYTES && most - least <= MOST_GROWTH {
         true => Ok(()),
-        false => Err(format!("resident memory goes from {least} to {most} kB")),
+        false => Err(format!("peak resident memory goes from {least} to {most} kB")),
     }
 }
 
-fn resident_kilobytes(id: u32) -> Option<u64> {
+fn peak_kilobytes(id: u32) -> Option<u64> {
     let status = std::fs::read_to_string(format!("/proc/{id}/status")).ok()?;
-    let line = status.lines().find_map(|line| line.strip_prefix("VmRSS:"))?;
+    let line = status.lines().find_map(|line| line.strip_prefix("VmHWM:"))?;
     line.split_whitespace().next()?.parse().ok()
 }

@@ -1,0 +1,124 @@
+#!/usr/bin/env python3
+"""make.py [FOLDER]: writes the sample nights, each a map and a feed, into FOLDER, or else beside itself. README.md tells what happens.
+
+NIGHT.reports is what the reference says to it: tests/reference, `ref_watch < NIGHT.feed > NIGHT.reports`. It is never made by `watch`."""
+import pathlib
+import sys
+
+HERE = pathlib.Path(__file__).resolve().parent
+sys.path.append(str(HERE.parent / "tests/nights"))
+from records import ALL_OPEN, QUIET, STRINGS, map_bytes, record
+
+# Every string has eight jets on each of its four manifolds: 0 to 7, 8 to 15, 16 to 23, 24 to 31.
+HALL = [[0x000000FF, 0x0000FF00, 0x00FF0000, 0xFF000000]] * STRINGS
+
+
+def only(place):
+    """The word that has this one bit."""
+    return 1 << place
+
+
+def stuck_jet():
+    """String 1, jet 13: its driver stays on when the command ends, and module 1 blows off fuel until manifold 1 is closed."""
+    feed = [map_bytes(HALL)]
+    stuck, closed = 31, 190
+    for cycle in range(1, 226):
+        commanded = only(13) if 20 <= cycle < stuck else 0
+        driver = only(13) if 20 <= cycle else 0
+        pressure = driver if cycle < closed else 0
+        valves = ALL_OPEN if cycle < closed else ALL_OPEN - only(1)
+        blown_off = 8 * max(0, min(cycle, closed) - stuck) // 25
+        feed.append(record(cycle, strings={1: (commanded, pressure, driver, valves)}, banks={1: (500 - blown_off, 500)}))
+    return b"".join(feed)
+
+
+def hand_closed_valve():
+    """String 2, manifold 0: jet 3 fails off, then somebody closes the valve and opens it again; later jet 3 is re-enabled."""
+    feed = [map_bytes(HALL)]
+    for cycle in range(1, 151):
+        commanded = pressure = 0
+        if 10 <= cycle <= 12:
+            commanded = only(3)
+        if 20 <= cycle < 30:
+            commanded = pressure = only(5)
+        if 50 <= cycle < 60:
+            commanded = only(5)  # behind a closed valve there is no pressure
+        valves = ALL_OPEN - only(0) if 40 <= cycle < 90 else ALL_OPEN
+        requests = {2: (0, only(3))} if cycle == 125 else {}
+        feed.append(record(cycle, strings={2: (commanded, pressure, 0, valves)}, requests=requests))
+    return b"".join(feed)
+
+
+def cable_pull():
+    """The cable is pulled three times, always in the middle of a record. String 0: jet 4 has no pressure, the driver of jet 2 stays on."""
+    feed = [map_bytes(HALL)]
+
+    def at(cycle):
+        commanded = only(4) if 31 <= cycle <= 42 else 0
+        driver = only(2) if 45 <= cycle else 0
+        return record(cycle, strings={0: (commanded, 0, driver, ALL_OPEN)})
+
+    for cycle in range(1, 161):
+        if cycle == 33:
+            feed.append(at(33)[:31])  # pulled in record 33; the next that comes is record 40
+        elif cycle == 60:
+            feed.append(at(60)[:30] + at(64)[30:])  # pulled in record 60 and put back in record 64: 59 bytes that begin with a mark
+        elif cycle == 75:
+            feed.append(at(75)[:300])  # pulled in a major record
+        elif not (33 < cycle < 40 or 60 < cycle < 65 or 75 < cycle < 78):
+            feed.append(at(cycle))
+    return b"".join(feed)
+
+
+def path_fault():
+    """The data path of string 3 fails from 60 to 79, in the middle of the close rule for jet 20. String 0 has nothing to do with it."""
+    feed = [map_bytes(HALL)]
+    for cycle in range(1, 161):
+        path = only(3) if 60 <= cycle < 80 else 0
+        strings = {0: QUIET, 3: QUIET}
+        requests = {}
+        if 15 <= cycle:
+            strings[3] = (0, 0, only(20), ALL_OPEN)
+        if 53 <= cycle <= 55:
+            strings[3] = (only(1), 0, only(20), ALL_OPEN)  # jet 1 fails off behind the good copy of cycle 50
+        if 76 <= cycle <= 78:
+            strings[0] = (only(5), 0, 0, ALL_OPEN)  # behind the good copy of cycle 75, which string 0 must not go back to
+        if cycle in (75, 100):
+            requests[3] = (only(2), 0)  # the keeper inhibits jet 2, in vain at 75
+        feed.append(record(cycle, path, strings, requests=requests))
+    return b"".join(feed)
+
+
+def old_records(with_old=True):
+    """A link brings back old records among the new ones. String 0: jet 2 has no pressure twice, the driver of jet 9 stays on."""
+    feed = [map_bytes(HALL)]
+    brought_back = {31: (30, 31), 60: (50, 30, 31), 75: (75, 50), 90: (25, 50, 75), 100: (100,)} if with_old else {}
+
+    def at(cycle):
+        commanded = only(2) if 30 <= cycle <= 31 else 0
+        driver = only(9) if 40 <= cycle else 0
+        return record(cycle, strings={0: (commanded, 0, driver, ALL_OPEN)})
+
+    for cycle in range(1, 121):
+        feed.append(at(cycle))
+        feed += [at(old) for old in brought_back.get(cycle, ())]
+    return b"".join(feed)
+
+
+NIGHTS = {
+    "1-stuck-jet": stuck_jet,
+    "2-hand-closed-valve": hand_closed_valve,
+    "3-cable-pull": cable_pull,
+    "4-path-fault": path_fault,
+    "5-old-records": old_records,
+}
+
+
+def main():
+    folder = pathlib.Path(sys.argv[1]) if len(sys.argv) > 1 else HERE
+    for name, night in NIGHTS.items():
+        (folder / f"{name}.feed").write_bytes(night())
+
+
+if __name__ == "__main__":
+    main()

@@ -1,0 +1,47 @@
+"""The bytes of a map and of records, for every script here that writes a feed. docs/FORMATS.md has them place by place."""
+import struct
+
+STRINGS, JETS, MANIFOLDS, MODULES = 4, 32, 4, 3
+MAJOR_EVERY = 25
+ALL_OPEN = 0x0F
+# commanded, pressure, driver, valves
+QUIET = (0, 0, 0, ALL_OPEN)
+WARM = (64, 64)
+NO_REQUESTS = (0, 0)
+HALF_FULL = (500, 500)
+
+
+def map_bytes(masks):
+    """The sixteen masks, string by string."""
+    return b"".join(struct.pack(">I", mask) for string in masks for mask in string)
+
+
+def summed(record):
+    return record + struct.pack(">H", sum(record) % 65536)
+
+
+def common(wire, path, strings):
+    """What both kinds of record have behind the mark."""
+    words = b"".join(struct.pack(">IIIB", *strings.get(s, QUIET)) for s in range(STRINGS))
+    return struct.pack(">HB", wire % 65536, path) + words
+
+
+def minor(wire, path=0, strings={}):
+    """strings: {string: (commanded, pressure, driver, valves)}; those not given are quiet."""
+    return summed(b"\x52\x4D" + common(wire, path, strings))
+
+
+def major(wire, path=0, strings={}, temps={}, requests={}, banks={}):
+    """temps: {(string, jet): (fuel, oxidizer)}, requests: {string: (inhibit, re-enable)}, banks: {module: (fuel, oxidizer)}."""
+    out = b"\x52\x4A" + common(wire, path, strings)
+    out += b"".join(struct.pack(">HH", *temps.get((s, j), WARM)) for s in range(STRINGS) for j in range(JETS))
+    out += b"".join(struct.pack(">II", *requests.get(s, NO_REQUESTS)) for s in range(STRINGS))
+    out += b"".join(struct.pack(">HH", *banks.get(m, HALF_FULL)) for m in range(MODULES))
+    return summed(out)
+
+
+def record(cycle, path=0, strings={}, temps={}, requests={}, banks={}):
+    """Of the right kind for its cycle: a minor record carries no more than path and strings."""
+    if cycle % MAJOR_EVERY:
+        return minor(cycle, path, strings)
+    return major(cycle, path, strings, temps, requests, banks)
