@@ -22,6 +22,7 @@ use Rattle.feed.proofs.Lengths.{Real, real-none, real-long, by-kind}
 use Rattle.feed.proofs.Settling.{settle-append, settle-found}
 use Rattle.feed.proofs.Fronts.{settle-short}
 use Rattle.feed.proofs.Turning.{shown-sized}
+use Rattle.feed.proofs.FirstRecord.{is-real}
 
 -- the hall's step on the first record of l, and the report if it is taken
 abbrev pub stepOn : Hall → List ℕ → Stepped
@@ -59,13 +60,6 @@ at-once-fixed {h = h} {l = l} (steps z a r) (steps y b q) =
     record { reports = r ∙ ap (λ (t : List (List ℕ)). toldBy (stepOn h l) ++ t) (s .reports) ∙ sym q; hall = s .hall; waiting = s .waiting }
 
 -- ---- bytes behind a record
-
-pub is-real : (l : List ℕ) → (kindIn l ≡ NoKind → ⊥) → Real (kindIn l)
-is-real l z = by (by-kind (kindIn l))
-  where
-    by : (kindIn l ≡ NoKind) ⊎ Real (kindIn l) → Real (kindIn l)
-    by (inl e) = absurd (z e)
-    by (inr r) = r
 
 pub record Ahead (a q : List ℕ) : Type 0 where
   pub kind : kindIn (a ++ q) ≡ kindIn a

@@ -15,39 +15,18 @@ use Rattle.feed.specs.Answered.{Read}
 use Rattle.feed.specs.Call.{holds, calledBy, settledOne, called, call}
 use Rattle.feed.specs.declared.format.Kind.{Kind}
 use Rattle.feed.specs.declared.format.Kind.the-variants.{NoKind}
-use Rattle.feed.specs.declared.format.Look.{Look}
-use Rattle.feed.specs.declared.format.Look.the-variants.{Drops, Waits, Loses, Settles}
 use Rattle.feed.specs.declared.call.Monitor.{Monitor}
-use Rattle.feed.proofs.Lengths.{Real, by-kind, real-none, real-long}
+use Rattle.feed.proofs.Lengths.{Real, by-kind, real-long}
 use Rattle.feed.proofs.Settling.{settled-append}
 use Rattle.feed.proofs.Fronts.{settle-short, settle-end}
 use Rattle.feed.proofs.Reading.{reads-whole, reads-short, reads-waits}
-use Rattle.feed.proofs.InPlace.{taken-settles}
 use Rattle.feed.proofs.Turning.{rest-short, shown-sized}
 use Rattle.feed.proofs.Tails.{dropped-bad}
-use Rattle.feed.proofs.Goods.{settles-whole, whole-settles}
+use Rattle.feed.proofs.Goods.{whole-settles}
 use Rattle.feed.proofs.Calling.{holds-short, call-called}
 use Rattle.feed.proofs.CallCases.{real-called}
-use Rattle.feed.proofs.Answered.{record-none}
+use Rattle.feed.proofs.FirstRecord.{record-none, record-whole}
 use Rattle.feed.proofs.Stops.{stops}
-
-shown-settles : (l : List ℕ) (k : Kind) → shown (look l) ≡ k → Real k → look l ≡ Settles k
-shown-settles l k e r = by (look l) e
-  where
-    by : (o : Look) → shown o ≡ k → o ≡ Settles k
-    by Drops s = absurd (real-none k r (sym s))
-    by Waits s = absurd (real-none k r (sym s))
-    by Loses s = absurd (real-none k r (sym s))
-    by (Settles n) s = ap Settles s
-
--- the record that stands first is whole
-pub record-whole : (l : List ℕ) → Real (kindIn l) → WholeRecord (recordIn l)
-record-whole l r =
-    let k : Kind = kindIn l in
-    settles-whole (take (lengthOf k) (settle l)) k (
-      length-take-le (lengthOf k) (settle l) (shown-sized (settle l) k refl r),
-      taken-settles (settle l) k (shown-settles (settle l) k refl r),
-    )
 
 module _ (m : Monitor) (piece out : List ℕ) where
   abbrev all : List ℕ

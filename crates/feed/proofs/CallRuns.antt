@@ -41,9 +41,8 @@ use Rattle.feed.specs.declared.call.Monitor.{Monitor}
 use Rattle.feed.proofs.Lengths.{below-or}
 use Rattle.feed.proofs.Calling.{call-called}
 use Rattle.feed.proofs.CallCases.{CallCase, none, some, call-case}
-use Rattle.feed.proofs.Answered.{record-long, short-call}
-use Rattle.feed.proofs.AtOnce.{is-real}
-use Rattle.feed.proofs.CallReads.{record-whole}
+use Rattle.feed.proofs.Fixed.{short-call}
+use Rattle.feed.proofs.FirstRecord.{is-real, record-long, record-whole}
 
 -- ---- numbers that fit
 

@@ -1,37 +1,29 @@
 -- Calls that hand in a feed come to what the feed does when looked at all at once. Assumes nothing.
 use mathlib.Core.Path.{_≡_, refl, sym, ap, subst, _∙_}
 use mathlib.Core.Bool.{cond}
-use mathlib.Core.List.{List, [], _∷_, _++_, append-assoc, append-nil}
-use Prim.Native.Nat.{ℕ, _≤_, _<_}
-use mathlib.Core.Logic.{_⊎_, inl, inr}
-use native.Mathlib.Omega.{arith}
-use borrow.Author.Tests.{lt-ltb}
+use mathlib.Core.List.{List, [], _∷_, _++_, append-assoc}
+use Prim.Native.Nat.{ℕ, _≤_}
 use lib.ListN.{length, take, drop}
 use lib.Seq.{take-at, drop-nil, drop-length}
-use Rattle.bits.proofs.Yes.{not-both}
 use Rattle.cycle.specs.Answers.{isTaken}
 use Rattle.cycle.specs.Hall.{started}
-use Rattle.cycle.specs.declared.answer.Answer.the-variants.{OutboxShort, NothingSettled}
 use Rattle.cycle.specs.declared.hall.Hall.{Hall}
 use Rattle.cycle.specs.declared.hall.Stepped.{Stepped}
 use Rattle.cycle.specs.declared.map.Masks.{Masks}
 use Rattle.feed.specs.Size.{outboxNeeded, reportLength}
 use Rattle.feed.specs.Reader.{settle}
 use Rattle.feed.specs.Report.{reportOf}
-use Rattle.feed.specs.Settled.{kindIn, behindIn, valuesIn}
-use Rattle.feed.specs.Call.{holds, holding, Result, called, call, startedOver, settledAny}
+use Rattle.feed.specs.Settled.{behindIn}
+use Rattle.feed.specs.Call.{holds, Result, called, call, startedOver}
 use Rattle.feed.specs.Calls.{Made, monitorAfter, takenReports, joined, firstOf, restOf, usedOf, Hands, starts, calls, passes}
-use Rattle.feed.specs.Calls.{LastIdle, Finished}
-use Rattle.feed.specs.declared.format.Kind.the-variants.{NoKind}
 use Rattle.feed.specs.declared.call.Monitor.{Monitor}
-use Rattle.feed.proofs.Lengths.{below-or}
 use Rattle.feed.proofs.Settling.{settle-append}
 use Rattle.feed.proofs.Fronts.{waits-short}
 use Rattle.feed.proofs.ReportLengths.{report-length}
-use Rattle.feed.proofs.Turning.{holds-same, stepped-settles}
+use Rattle.feed.proofs.Turning.{holds-same}
 use Rattle.feed.proofs.Calling.{call-called}
 use Rattle.feed.proofs.CallCases.{CallCase, none, some, call-case}
-use Rattle.feed.proofs.AtOnce.{AtOnce, rests, steps, stepOn, toldBy, at-once-same, ahead, step-ahead}
+use Rattle.feed.proofs.AtOnce.{AtOnce, steps, stepOn, toldBy, at-once-same, ahead, step-ahead}
 
 -- the report of a call that answers 0
 abbrev told : Result → List (List ℕ)
@@ -106,55 +98,3 @@ hands-at-once masks pieces (calls {cs} {left} {c} outbox room before same rest) 
     subst (λ (t : List (List ℕ)). AtOnce ((started masks) .hall) (joined pieces) t e w)
     (sym (append-assoc (takenReports masks cs) (told x) rs)) (hands-at-once masks pieces before (told x ++ rs) e w f)
 hands-at-once masks pieces (passes before) rs e w a = hands-at-once masks pieces before rs e w a
-
--- ---- the end of a feed
-
--- a call that settles nothing leaves what settling leaves, which waits
-pub record Idle (m : Monitor) : Type 0 where
-  pub waits : kindIn (holds m) ≡ NoKind
-  pub settled : settle (holds m) ≡ holds m
-  pub order : m ≡ holding (m .hall) (holds m)
-
-idle-by : (m : Monitor) (piece out : List ℕ) (c : Result) → CallCase m piece out c → c .outcome .answer ≡ NothingSettled
-    → Idle (c .outcome .monitor)
-idle-by m piece out c (none z) e =
-    let l : List ℕ = holds m ++ piece in
-    let h : holds (holding (m .hall) (settle l)) ≡ settle l = holds-same (m .hall) (settle l) (waits-short l z) in
-    let twice : settle (settle l) ≡ settle l =
-    ap settle (sym (append-nil (settle l))) ∙ sym (settle-append l []) ∙ ap settle (append-nil l) in
-    record { waits = rw (h, twice) z; settled = rw h twice; order = ap (holding (m .hall)) (sym h) }
-idle-by m piece out c (some z held used x short fits back same) e =
-    not-both (settledAny (x .answer)) (rw same (stepped-settles (valuesIn (holds m ++ piece)) (m .hall))) (ap settledAny e)
-
--- an outbox too short answers 5
-short-answer : (m : Monitor) (piece out : List ℕ) → length out < outboxNeeded → (call m piece out) .outcome .answer ≡ NothingSettled → ⊥
-unfolding call
-short-answer m piece out l e =
-    let s : (call m piece out) .outcome .answer ≡ OutboxShort = rw (lt-ltb (length out) outboxNeeded l) refl in
-    let z : _≡_ {A = ℕ} 0 1 = cc in
-    omega arith
-
-pub call-idle : (m : Monitor) (piece out : List ℕ) → (call m piece out) .outcome .answer ≡ NothingSettled
-    → Idle ((call m piece out) .outcome .monitor)
-call-idle m piece out e = by (below-or (length out) outboxNeeded)
-  where
-    by : (length out < outboxNeeded) ⊎ (outboxNeeded ≤ length out) → Idle ((call m piece out) .outcome .monitor)
-    by (inl l) = absurd (short-answer m piece out l e)
-    by (inr l) =
-        let s = call-called m piece out l in
-        rw s (idle-by m piece out (called m piece out) (call-case m piece out) (rw s at e))
-
-pub last-idle : (masks : List Masks) (cs : List Made) → LastIdle masks cs → Idle (monitorAfter masks cs)
-unfolding monitorAfter
-last-idle masks [] e = absurd e
-last-idle masks (c ∷ cs) e = call-idle (monitorAfter masks cs) (c .piece) (c .outbox) e
-
-pub finished-at-once : (masks : List Masks) (pieces : List (List ℕ)) (cs : List Made) → Finished masks pieces cs
-    → AtOnce ((started masks) .hall) (joined pieces) (takenReports masks cs) ((monitorAfter masks cs) .hall) (holds (monitorAfter masks cs))
-finished-at-once masks pieces cs f =
-    let m : Monitor = monitorAfter masks cs in
-    let i = last-idle masks cs (f .lastIdle) in
-    let n : holds m ++ [] ≡ holds m = append-nil (holds m) in
-    subst (λ (t : List (List ℕ)). AtOnce ((started masks) .hall) (joined pieces) t (m .hall) (holds m)) (append-nil (takenReports masks cs))
-    (hands-at-once masks pieces (f .allUsed) [] (m .hall) (holds m)
-    (rests (ap kindIn n ∙ i .waits) (rw n (sym (i .settled)))))

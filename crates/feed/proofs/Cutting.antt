@@ -34,7 +34,7 @@ use Rattle.feed.proofs.Lengths.{real-none}
 use Rattle.feed.proofs.Settling.{settled-append, settle-settled}
 use Rattle.feed.proofs.Goods.{whole-settles}
 use Rattle.feed.proofs.AtOnce.{AtOnce, steps, stepOn, toldBy, at-once-fixed, at-once-append, at-once-ends}
-use Rattle.feed.proofs.CallsAtOnce.{last-idle, finished-at-once}
+use Rattle.feed.proofs.FeedEnds.{last-idle, finished-at-once}
 
 -- ---- a stale or repeated record changes nothing
 

@@ -20,7 +20,7 @@ use Rattle.feed.proofs.Fronts.{settle-short, waits-short}
 use Rattle.feed.proofs.Turning.{holds-same, shown-sized}
 use Rattle.feed.proofs.Calling.{call-called}
 use Rattle.feed.proofs.CallCases.{CallCase, none, some, call-case}
-use Rattle.feed.proofs.AtOnce.{is-real}
+use Rattle.feed.proofs.FirstRecord.{is-real}
 
 -- ---- one call: it uses its piece up and settles nothing, or takes a record's bytes away
 

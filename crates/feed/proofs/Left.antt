@@ -18,7 +18,7 @@ use Rattle.feed.specs.declared.call.Monitor.{Monitor}
 use Rattle.feed.proofs.Lengths.{below-or}
 use Rattle.feed.proofs.Calling.{call-called}
 use Rattle.feed.proofs.CallCases.{CallCase, none, some, call-case}
-use Rattle.feed.proofs.Answered.{short-call}
+use Rattle.feed.proofs.Fixed.{short-call}
 
 -- a settled record, by the hall's verdict on it
 abbrev result : Stepped → ℕ → List ℕ → List ℕ → Result

@@ -26,13 +26,17 @@ pub mod Turning
 pub mod Calling
 pub mod CallBounds
 pub mod Tails
+pub mod GoodParts
 pub mod Goods
+pub mod FirstRecord
 pub mod CallCases
 pub mod AtOnce
 pub mod CallsAtOnce
+pub mod FeedEnds
 pub mod Cutting
 pub mod Finishing
 pub mod StepAnswers
+pub mod Fixed
 pub mod Answered
 pub mod Left
 pub mod Stops
