@@ -39,5 +39,4 @@ pub record Third (r : JetRecord) (h : List JetRecord) : Type 0 where
 
 -- the newest record or an earlier one is such a third
 abbrev pub EverThird : List JetRecord → Type 0
-EverThird [] = ⊥
-EverThird (r ∷ h) = Third r h ⊎ EverThird h
+EverThird h = Some Third h

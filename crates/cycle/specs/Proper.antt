@@ -1,4 +1,5 @@
--- Proper states: those that runs from fresh over an accepted map reach. `m` is the number of manifolds. Assumes nothing.
+-- Proper states: what holds of every state that runs from fresh over an accepted map reach. `m` is the number of manifolds.
+-- Assumes nothing.
 use mathlib.Core.Path.{_≡_}
 use mathlib.Core.Bool.{Bool, true, false}
 use mathlib.Core.List.{List}

@@ -52,7 +52,7 @@ jetSays n path i j x q t = record {
   oxidizer = getD (t .words) (2 * j + 1) 0;
 }
 
--- a minor record says nothing of requests and temperatures
+-- a minor record says nothing of requests and temperatures: they stand as 0, and only major cycles look at them
 abbrev pub jetRecord : ℕ → ℕ → ℕ → ℕ → Record → JetRecord
 jetRecord n s i j (minor r) = jetSays n (bit s (r .path)) i j (sampleOf r s) noRequests noTemperatures
 jetRecord n s i j (major r) =

@@ -61,12 +61,12 @@ at-once-fixed {h = h} {l = l} (steps z a r) (steps y b q) =
 
 -- ---- bytes behind a record
 
-pub record Ahead (a q : List ℕ) : Type 0 where
+pub record Leads (a q : List ℕ) : Type 0 where
   pub kind : kindIn (a ++ q) ≡ kindIn a
   pub first : recordIn (a ++ q) ≡ recordIn a
   pub behind : behindIn (a ++ q) ≡ behindIn a ++ q
 
-pub ahead : (a q : List ℕ) → (kindIn a ≡ NoKind → ⊥) → Ahead a q
+pub ahead : (a q : List ℕ) → (kindIn a ≡ NoKind → ⊥) → Leads a q
 ahead a q z =
     let f = settle-found a q z in
     let k : kindIn (a ++ q) ≡ kindIn a = ap (λ (t : List ℕ). shown (look t)) (f .0) ∙ ap shown (f .1) in
@@ -79,7 +79,7 @@ ahead a q z =
           ap₂ (λ (n : ℕ) (t : List ℕ). drop n t) (ap lengthOf k) (f .0) ∙ drop-append-le (lengthOf (kindIn a)) (settle a) q long;
     }
 
-pub step-ahead : (h : Hall) (a q : List ℕ) → Ahead a q → stepOn h (a ++ q) ≡ stepOn h a
+pub step-ahead : (h : Hall) (a q : List ℕ) → Leads a q → stepOn h (a ++ q) ≡ stepOn h a
 step-ahead h a q x = ap₂ (λ (k : Kind) (t : List ℕ). stepped (valuesOf k t) h) (x .kind) (x .first)
 
 -- one feed behind another

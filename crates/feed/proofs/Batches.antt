@@ -1,10 +1,10 @@
 -- The step that a program repeats is calls that hand in a feed, as demand 3 speaks of them. Assumes nothing.
-use mathlib.Core.Path.{_≡_, refl, sym, ap, ap₂, subst, _∙_}
-use mathlib.Core.Bool.{Bool, true, false, cond}
+use mathlib.Core.Path.{_≡_, refl, sym, ap, subst, _∙_}
+use mathlib.Core.Bool.{true, false, cond}
 use mathlib.Core.List.{List, [], _∷_, _++_, append-assoc, append-nil}
-use Prim.Native.Nat.{ℕ, zero, suc, _+_, _≤_}
+use Prim.Native.Nat.{ℕ, zero, suc, _+_}
 use native.Mathlib.Omega.{arith}
-use lib.ListN.{length, take, drop, length-drop}
+use lib.ListN.{length, take, drop, length-append, length-drop}
 use lib.Seq.{take-at, drop-drop}
 use Rattle.bits.proofs.Yes.{not-both}
 use Rattle.cycle.specs.Answers.{writesReport}
@@ -12,10 +12,10 @@ use Rattle.cycle.specs.declared.answer.Answer.{Answer}
 use Rattle.cycle.specs.declared.answer.Answer.the-variants.{Taken, Stale, Repeat, CountEnded, WrongKind, OutboxShort, MapRefused}
 use Rattle.cycle.specs.declared.answer.Answer.the-variants.{NothingSettled}
 use Rattle.cycle.specs.declared.map.Masks.{Masks}
-use Rattle.feed.specs.Size.{reportLength, outboxNeeded}
+use Rattle.feed.specs.Size.{reportLength}
 use Rattle.feed.specs.Settled.{valuesIn}
-use Rattle.feed.specs.Call.{holds, Result, called, call, settledAny, Reported, reportedThen, reportedLast, runs}
-use Rattle.feed.specs.Calls.{Made, monitorAfter, resultOf, answerOf, reportIn, Hands, calls, LastIdle}
+use Rattle.feed.specs.Call.{holds, Result, called, settledAny, Reported, runs}
+use Rattle.feed.specs.Calls.{Made, monitorAfter, resultOf, answerOf, reportIn, Hands, calls}
 use Rattle.feed.specs.Batch.{allReports, Continues}
 use Rattle.feed.specs.declared.call.Monitor.{Monitor}
 use Rattle.feed.specs.declared.call.Outcome.{Outcome}
@@ -79,62 +79,71 @@ module _ (masks : List Masks) (cs : List Made) (piece : List ℕ) where
       ap (λ (x : Outcome). writesReport (x .answer)) same-outcome ∙ sym (settled-writes (c .outcome .answer)) ∙ e in
       rw a refl
 
-module _ (masks : List Masks) (pieces behind : List (List ℕ)) where
+module _ (masks : List Masks) (feed behind : List ℕ) where
   abbrev Batch : ℕ → Type 0
-  Batch n = (cs : List Made) (piece : List ℕ) → Hands masks pieces cs (piece ∷ behind)
-      → Continues masks pieces cs piece behind (runs n (monitorAfter masks cs) piece)
+  Batch n = (cs : List Made) (piece : List ℕ) → Hands masks feed cs (piece ++ behind)
+      → Continues masks feed cs piece behind n (runs n (monitorAfter masks cs) piece)
 
-  last : (n : ℕ) (cs : List Made) (piece : List ℕ) → Hands masks pieces cs (piece ∷ behind)
+  -- the call is made
+  handed : (cs : List Made) (piece : List ℕ) → Hands masks feed cs (piece ++ behind)
+      → Hands masks feed (made masks cs piece ∷ cs) (drop ((c masks cs piece) .outcome .used) piece ++ behind)
+  handed cs piece h =
+      calls behind room-enough h refl (ap (λ (x : Outcome). drop (x .used) piece ++ behind) (sym (same-outcome masks cs piece)))
+
+  last : (n : ℕ) (cs : List Made) (piece : List ℕ) → Hands masks feed cs (piece ++ behind)
       → settledAny ((called (monitorAfter masks cs) piece []) .outcome .answer) ≡ false
-      → Continues masks pieces cs piece behind (runs (suc n) (monitorAfter masks cs) piece)
+      → Continues masks feed cs piece behind (suc n) (runs (suc n) (monitorAfter masks cs) piece)
   unfolding monitorAfter allReports
   last n cs piece h e =
       let same = same-outcome masks cs piece in
       let i = idle-by (m masks cs piece) piece [] (c masks cs piece) (call-case (m masks cs piece) piece []) e in
       rw (runs-last n (monitorAfter masks cs) piece e) (record {
-        made = made masks cs piece ∷ cs;
-        hands = calls room room-enough h refl (ap (λ (x : Outcome). drop (x .used) piece ∷ behind) (sym same));
+        more = made masks cs piece ∷ [];
+        most = omega arith;
+        hands = handed cs piece h;
         monitor = ap (λ (x : Outcome). x .monitor) same;
         reports = ap (λ (l : List ℕ). allReports masks cs ++ l) (report-none masks cs piece e);
         idle = λ y. (ap (λ (x : Outcome). x .answer) same ∙ i .0, i .1);
       })
 
-  more : (n : ℕ) → Batch n → (cs : List Made) (piece : List ℕ) → Hands masks pieces cs (piece ∷ behind)
+  more : (n : ℕ) → Batch n → (cs : List Made) (piece : List ℕ) → Hands masks feed cs (piece ++ behind)
       → settledAny ((called (monitorAfter masks cs) piece []) .outcome .answer) ≡ true
-      → Continues masks pieces cs piece behind (runs (suc n) (monitorAfter masks cs) piece)
+      → Continues masks feed cs piece behind (suc n) (runs (suc n) (monitorAfter masks cs) piece)
   unfolding monitorAfter allReports
   more n next cs piece h e =
       let one : Result = c masks cs piece in
-      let same = same-outcome masks cs piece in
-      let after : monitorAfter masks (made masks cs piece ∷ cs) ≡ one .outcome .monitor = ap (λ (x : Outcome). x .monitor) same in
+      let first : Made = made masks cs piece in
+      let after : monitorAfter masks (first ∷ cs) ≡ one .outcome .monitor =
+      ap (λ (x : Outcome). x .monitor) (same-outcome masks cs piece) in
       let rest : List ℕ = drop (one .outcome .used) piece in
-      let x = next (made masks cs piece ∷ cs) rest
-      (calls room room-enough h refl (ap (λ (y : Outcome). drop (y .used) piece ∷ behind) (sym same))) in
       let r : Reported = runs n (one .outcome .monitor) rest in
-      let back : runs n (monitorAfter masks (made masks cs piece ∷ cs)) rest ≡ r = ap (λ (y : Monitor). runs n y rest) after in
-      let y : Continues masks pieces (made masks cs piece ∷ cs) rest behind r =
-      subst (Continues masks pieces (made masks cs piece ∷ cs) rest behind) back x in
+      let y : Continues masks feed (first ∷ cs) rest behind n r =
+      subst (Continues masks feed (first ∷ cs) rest behind n) (ap (λ (x : Monitor). runs n x rest) after)
+      (next (first ∷ cs) rest (handed cs piece h)) in
+      let all : (y .more ++ (first ∷ [])) ++ cs ≡ y .more ++ (first ∷ cs) = append-assoc (y .more) (first ∷ []) cs in
+      let far : drop (r .used) rest ≡ drop (one .outcome .used + r .used) piece = drop-drop (r .used) (one .outcome .used) piece in
+      let l = length-append (y .more) (first ∷ []) in
       rw (runs-more n (monitorAfter masks cs) piece e) (record {
-        made = y .made;
-        hands =
-            subst (λ (l : List ℕ). Hands masks pieces (y .made) (l ∷ behind)) (drop-drop (r .used) (one .outcome .used) piece)
-            (y .hands);
-        monitor = y .monitor;
-        reports =
-            y .reports
-            ∙ ap (λ (l : List ℕ). (allReports masks cs ++ l) ++ r .reports) (report-same masks cs piece e)
-            ∙ append-assoc (allReports masks cs) (one .outbox) (r .reports);
+        more = y .more ++ (first ∷ []);
+        most = omega (arith, y .most, l);
+        hands = rw (all, ← far) (y .hands);
+        monitor = rw all (y .monitor);
+        reports = rw all
+            (y .reports
+            ∙ ap (λ (t : List ℕ). (allReports masks cs ++ t) ++ r .reports) (report-same masks cs piece e)
+            ∙ append-assoc (allReports masks cs) (one .outbox) (r .reports));
         idle = λ z.
             let i = y .idle z in
             let w = used-within (monitorAfter masks cs) piece [] in
             let n : one .outcome .used + r .used ≡ length piece = omega (arith, i .1, length-drop (one .outcome .used) piece) in
-            (i .0, n);
+            (rw all (i .0), n);
       })
 
   pub batch-continues : (n : ℕ) → Batch n
   batch-continues zero cs piece h =
       rw (runs-none (monitorAfter masks cs) piece) (record {
-        made = cs;
+        more = [];
+        most = omega arith;
         hands = h;
         monitor = refl;
         reports = sym (append-nil (allReports masks cs));

@@ -1,11 +1,11 @@
 -- Demand 1 of a call: what it drops, settles and holds, and where it stops. Assumes nothing.
-use mathlib.Core.Path.{_≡_, refl, sym, ap, _∙_}
+use mathlib.Core.Path.{_≡_, refl, sym, ap, ap₂, _∙_}
 use mathlib.Core.List.{List, [], _++_}
 use mathlib.Core.Logic.{_⊎_, inl, inr}
 use Prim.Native.Nat.{ℕ, _+_, _-_, _<_, _≤_}
 use native.Mathlib.Omega.{arith}
 use lib.ListN.{length, take, drop, length-append, length-drop, take-append-drop}
-use lib.Seq.{length-take-le, take-append-le}
+use lib.Seq.{length-take-le, take-append-le, take-at, drop-at}
 use Rattle.feed.specs.Size.{storeLength, outboxNeeded}
 use Rattle.feed.specs.Format.{lengthOf, look}
 use Rattle.feed.specs.Reader.{settle, shown, Stop, reads}
@@ -17,7 +17,7 @@ use Rattle.feed.specs.declared.format.Kind.{Kind}
 use Rattle.feed.specs.declared.format.Kind.the-variants.{NoKind}
 use Rattle.feed.specs.declared.call.Monitor.{Monitor}
 use Rattle.feed.proofs.Lengths.{Real, by-kind, real-long}
-use Rattle.feed.proofs.Settling.{settled-append}
+use Rattle.feed.proofs.Settling.{settle-append, settled-append}
 use Rattle.feed.proofs.Fronts.{settle-short, settle-end}
 use Rattle.feed.proofs.Reading.{reads-whole, reads-short, reads-waits}
 use Rattle.feed.proofs.Turning.{rest-short, shown-sized}
@@ -64,10 +64,26 @@ module _ (m : Monitor) (piece out : List ℕ) where
       sym (length-append (stop .left) (stop .rest)) ∙ ap length (reads-whole (holds m) piece .0) in
       omega (arith, n, l, w, length-append (holds m) piece, length-append (holds m) (take taken piece), t)
 
-  none-lost : (i : ℕ) → i < length gone → (r rest : List ℕ) → drop i all ≡ r ++ rest → WholeRecord r → ⊥
-  none-lost i l r rest e w =
+  none-lost : (i : ℕ) → i < length gone → (later r rest : List ℕ) → drop i (all ++ later) ≡ r ++ rest → WholeRecord r → ⊥
+  none-lost i l later r rest e w =
       let x = whole-settles r w in
-      dropped-bad all i (omega (arith, gone-long)) (x .0) (ap look e ∙ settled-append r rest (x .0) (x .2 .1))
+      let s : length (settle (all ++ later)) ≤ length (settle all) + length later =
+      rw (settle-append all later) (omega (arith, settle-short (settle all ++ later), length-append (settle all) later)) in
+      let n = settle-short all in
+      dropped-bad (all ++ later) i (omega (arith, gone-long, length-append all later)) (x .0)
+      (ap look e ∙ settled-append r rest (x .0) (x .2 .1))
+
+  -- a whole record behind what goes is what settles
+  settled-there : (r rest : List ℕ) → all ≡ gone ++ (r ++ rest) → WholeRecord r → recordIn all ≡ r
+  settled-there r rest e w =
+      let x = whole-settles r w in
+      let here : settle all ≡ r ++ rest =
+      sym (settle-end all)
+      ∙ ap (λ (n : ℕ). drop n all) (sym gone-long)
+      ∙ ap (drop (length gone)) e
+      ∙ drop-at gone (r ++ rest) (length gone) refl in
+      let kind : kindIn all ≡ x .0 = ap (λ (t : List ℕ). shown (look t)) here ∙ ap shown (settled-append r rest (x .0) (x .2 .1)) in
+      ap₂ (λ (k : Kind) (t : List ℕ). take (lengthOf k) t) kind here ∙ take-at r rest (lengthOf (x .0)) (x .2 .0)
 
   not-before : (u : ℕ) → u < taken → recordIn (holds m ++ take u piece) ≡ []
   not-before u l = record-none (holds m ++ take u piece) (stops (holds m) piece .before u l)
@@ -104,6 +120,7 @@ module _ (m : Monitor) (piece out : List ℕ) where
         short = reads-waits (holds m) piece (kind-same ∙ z);
         whole = inl r;
         noneLost = none-lost;
+        settled = settled-there;
         within = omega arith;
         settles = settles-there;
         notBefore = not-before;
@@ -126,6 +143,7 @@ module _ (m : Monitor) (piece out : List ℕ) where
         short = omega (arith, length-drop n (stop .left), real-long (kindIn all) r);
         whole = inr (record-whole all r);
         noneLost = none-lost;
+        settled = settled-there;
         within = omega arith;
         settles = settles-there;
         notBefore = not-before;

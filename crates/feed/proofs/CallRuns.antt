@@ -1,7 +1,7 @@
 -- What any calls keep, from fresh over an accepted map: the hall's run over the records answered 0, and numbers that fit their bytes in a
 -- report. Assumes nothing.
-use mathlib.Core.Path.{_≡_, refl, subst}
-use mathlib.Core.Bool.{false, cond}
+use mathlib.Core.Path.{_≡_, refl, sym, ap, subst, _∙_}
+use mathlib.Core.Bool.{Bool, true, false, cond}
 use mathlib.Core.List.{List, [], _∷_, _++_}
 use mathlib.Core.Logic.{_⊎_, inl, inr}
 use Prim.Native.Nat.{ℕ, _+_, _*_, _<_, _≤_}
@@ -18,6 +18,7 @@ use Rattle.cycle.specs.Proper.{FitMap, ProperHall}
 use Rattle.cycle.specs.Runs.{TakenRecord, bankBy}
 use Rattle.cycle.specs.declared.banks.Bank.{Bank}
 use Rattle.cycle.specs.declared.hall.Hall.{Hall}
+use Rattle.cycle.specs.declared.hall.Stepped.{Stepped}
 use Rattle.cycle.specs.declared.map.Masks.{Masks}
 use Rattle.cycle.specs.declared.number.Verdict.{Verdict}
 use Rattle.cycle.specs.declared.number.Verdict.the-variants.{Takes, Refuses}
@@ -34,11 +35,17 @@ use Rattle.feed.specs.Values.{quantitiesAt, quantitiesOf, majorOf, value
 use Rattle.feed.specs.Good.{QuantitiesRight, WholeRecord}
 use Rattle.feed.specs.Settled.{kindIn, recordIn, valuesIn}
 use Rattle.feed.specs.Call.{holds, Result, startedOver, called, call}
+use Rattle.feed.specs.Answered.{apart}
+use Rattle.feed.specs.Heard.{Heard, reachedBy}
 use Rattle.feed.specs.Calls.{Made, monitorAfter, takenRecords}
 use Rattle.feed.specs.declared.format.Kind.{Kind}
 use Rattle.feed.specs.declared.format.Kind.the-variants.{NoKind, Minor, Major}
 use Rattle.feed.specs.declared.call.Monitor.{Monitor}
 use Rattle.feed.proofs.Lengths.{below-or}
+use Rattle.feed.proofs.HeardValues.{quantities-at}
+use Rattle.feed.proofs.Carried.{Carry, behind, reached-carried}
+use Rattle.feed.proofs.Carried as heard
+use Rattle.feed.proofs.StepAnswers.{taken-number}
 use Rattle.feed.proofs.Calling.{call-called}
 use Rattle.feed.proofs.CallCases.{CallCase, none, some, call-case}
 use Rattle.feed.proofs.Fixed.{short-call}
@@ -75,13 +82,9 @@ step-fits r h p s f = by (judged (h .n) ((common r) .wire) (majorKind r)) refl
 -- a whole record's quantities
 quantities-small : (r : List ℕ) → QuantitiesRight r → (m : ℕ) → m < moduleCount
     → (getD (quantitiesOf moduleCount r) m noQuantities) .fuel ≤ mostQuantity
-unfolding quantitiesOf
 quantities-small r q m l =
-    let e : getD (quantitiesOf moduleCount r) m noQuantities ≡ quantitiesAt r (quantitiesFrom + quantitiesLength * m) =
-    each-at (λ k x. quantitiesAt r (quantitiesFrom + quantitiesLength * k)) noQuantities (replicate moduleCount noQuantities) moduleCount
-    m l (omega arith) in
-    let n : 601 + 2 * (2 * m) ≡ quantitiesFrom + quantitiesLength * m = omega arith in
-    rw e (subst (λ (i : ℕ). two r i ≤ 1000) n (q (2 * m) (omega arith)))
+    let n : 601 + 2 * (2 * m) ≡ 601 + 4 * m = omega arith in
+    rw (quantities-at r m l) (subst (λ (i : ℕ). two r i ≤ 1000) n (q (2 * m) (omega arith)))
 
 small-values : (k : Kind) (r : List ℕ) → length r ≡ lengthOf k → WholeRecord r → Small (valuesOf k r)
 unfolding valuesOf majorOf lengthOf
@@ -95,26 +98,59 @@ record-small l z = small-values (kindIn l) (recordIn l) (record-long l z) (recor
 
 -- ---- what is kept
 
-pub record Kept (masks : List Masks) (h : Hall) (ts : List TakenRecord) : Type 0 where
-  pub run : Run masks h ts
+-- the hall's run over the values that the records heard carry
+pub record Kept (masks : List Masks) (h : Hall) (ts : List Heard) : Type 0 where
+  pub values : List TakenRecord
+  pub carry : Carry ts values
+  pub run : Run masks h values
   pub fits : Fits h
 
--- the records taken, with the one that a call settled
-abbrev grown : Result → Record → List TakenRecord → List TakenRecord
-grown c r ts = cond (isTaken (c .outcome .answer)) (record { n = c .outcome .monitor .hall .n; values = r } ∷ ts) ts
+-- the records heard, with the one that a call settled
+abbrev grown : Bool → List ℕ → List Heard → List Heard
+grown b r ts = cond b (record { n = reachedBy ts + apart (reachedBy ts) r; bytes = r } ∷ ts) ts
 
-module _ (masks : List Masks) (m : Monitor) (piece out : List ℕ) (ts : List TakenRecord) (kept : Kept masks (m .hall) ts) where
+module _ (masks : List Masks) (h : Hall) (ts : List Heard) (kept : Kept masks h ts) (l : List ℕ) (z : kindIn l ≡ NoKind → ⊥) where
+  abbrev x : Stepped
+  x = stepped (valuesIn l) h
+
+  fits-next : Fits (x .hall)
+  fits-next = step-fits (valuesIn l) h (kept .run .proper) (record-small l z) (kept .fits)
+
+  run-next : (b : Bool) → isTaken (x .answer) ≡ b
+      → Run masks (x .hall) (cond b (record { n = x .hall .n; values = valuesIn l } ∷ kept .values) (kept .values))
+  run-next b e =
+      subst (λ (y : Bool). Run masks (x .hall) (cond y (record { n = x .hall .n; values = valuesIn l } ∷ kept .values) (kept .values))) e
+      (run-step masks h (kept .values) (kept .run) (valuesIn l))
+
+  -- the number that the record led to, by the records heard
+  number-next : isTaken (x .answer) ≡ true → x .hall .n ≡ reachedBy ts + apart (reachedBy ts) (recordIn l)
+  number-next e =
+      taken-number h (kindIn l) (recordIn l) e
+      ∙ ap (λ (n : ℕ). n + apart n (recordIn l)) (kept .run .told .number ∙ reached-carried (kept .carry))
+
+  step-kept : (b : Bool) → isTaken (x .answer) ≡ b → Kept masks (x .hall) (grown b (recordIn l) ts)
+  step-kept true e =
+      let n = number-next e in
+      record {
+        values = record { n = x .hall .n; values = valuesIn l } ∷ kept .values;
+        carry =
+            subst
+            (λ (k : ℕ). Carry (record { n = k; bytes = recordIn l } ∷ ts) (record { n = x .hall .n; values = valuesIn l } ∷ kept .values))
+            n (behind (x .hall .n) (kindIn l) (recordIn l) (is-real l z) (record-long l z) (kept .carry));
+        run = run-next true e;
+        fits = fits-next;
+      }
+  step-kept false e = record { values = kept .values; carry = kept .carry; run = run-next false e; fits = fits-next }
+
+module _ (masks : List Masks) (m : Monitor) (piece out : List ℕ) (ts : List Heard) (kept : Kept masks (m .hall) ts) where
   abbrev After : Result → Type 0
-  After c = Kept masks (c .outcome .monitor .hall) (grown c (valuesIn (holds m ++ piece)) ts)
+  After c = Kept masks (c .outcome .monitor .hall) (grown (isTaken (c .outcome .answer)) (recordIn (holds m ++ piece)) ts)
 
   kept-by : (c : Result) → CallCase m piece out c → After c
   kept-by c (none z) = kept
   kept-by c (some z held used x short fits back same) =
-      let r : Record = valuesIn (holds m ++ piece) in
-      rw same (record {
-        run = run-step masks (m .hall) ts (kept .run) r;
-        fits = step-fits r (m .hall) (kept .run .proper) (record-small (holds m ++ piece) z) (kept .fits);
-      })
+      let y : Stepped = stepped (valuesIn (holds m ++ piece)) (m .hall) in
+      rw same (step-kept masks (m .hall) ts kept (holds m ++ piece) z (isTaken (y .answer)) refl)
 
   pub call-kept : After (call m piece out)
   call-kept = by (below-or (length out) 34)
@@ -140,6 +176,7 @@ pub calls-kept : (masks : List Masks) → FitMap masks → refused stringCount m
     → Kept masks ((monitorAfter masks cs) .hall) (takenRecords masks cs)
 unfolding monitorAfter takenRecords
 calls-kept masks fit accepted [] =
-    rw (started-hall masks accepted) (record { run = run-fresh masks fit accepted; fits = fresh-fits masks })
+    rw (started-hall masks accepted)
+    (record { values = []; carry = heard.Carry.none; run = run-fresh masks fit accepted; fits = fresh-fits masks })
 calls-kept masks fit accepted (c ∷ cs) =
     call-kept masks (monitorAfter masks cs) (c .piece) (c .outbox) (takenRecords masks cs) (calls-kept masks fit accepted cs)

@@ -4,7 +4,7 @@ use mathlib.Core.Bool.{cond}
 use mathlib.Core.List.{List, [], _∷_, _++_, append-assoc}
 use Prim.Native.Nat.{ℕ, _≤_}
 use lib.ListN.{length, take, drop}
-use lib.Seq.{take-at, drop-nil, drop-length}
+use lib.Seq.{take-at, drop-length}
 use Rattle.cycle.specs.Answers.{isTaken}
 use Rattle.cycle.specs.Hall.{started}
 use Rattle.cycle.specs.declared.hall.Hall.{Hall}
@@ -15,7 +15,7 @@ use Rattle.feed.specs.Reader.{settle}
 use Rattle.feed.specs.Report.{reportOf}
 use Rattle.feed.specs.Settled.{behindIn}
 use Rattle.feed.specs.Call.{holds, Result, called, call, startedOver}
-use Rattle.feed.specs.Calls.{Made, monitorAfter, takenReports, joined, firstOf, restOf, usedOf, Hands, starts, calls, passes}
+use Rattle.feed.specs.Calls.{Made, monitorAfter, takenReports, Hands, starts, calls}
 use Rattle.feed.specs.declared.call.Monitor.{Monitor}
 use Rattle.feed.proofs.Settling.{settle-append}
 use Rattle.feed.proofs.Fronts.{waits-short}
@@ -67,34 +67,20 @@ call-at-once m piece out q room =
 
 -- ---- the calls of a feed
 
-first-used : (n : ℕ) (left : List (List ℕ)) → joined (usedOf n left) ≡ drop n (firstOf left) ++ joined (restOf left)
-first-used n [] = ap (λ (l : List ℕ). l ++ []) (sym (drop-nil n))
-first-used n (p ∷ ps) = refl
-
-first-whole : (left : List (List ℕ)) → joined left ≡ firstOf left ++ joined (restOf left)
-first-whole [] = refl
-first-whole (p ∷ ps) = refl
-
 -- what is still to come, and what came before it
-pub hands-at-once : (masks : List Masks) (pieces : List (List ℕ)) {cs : List Made} {left : List (List ℕ)} → Hands masks pieces cs left
+pub hands-at-once : (masks : List Masks) (feed : List ℕ) {cs : List Made} {left : List ℕ} → Hands masks feed cs left
     → (rs : List (List ℕ)) (e : Hall) (w : List ℕ)
-    → AtOnce ((monitorAfter masks cs) .hall) (holds (monitorAfter masks cs) ++ joined left) rs e w
-    → AtOnce ((started masks) .hall) (joined pieces) (takenReports masks cs ++ rs) e w
+    → AtOnce ((monitorAfter masks cs) .hall) (holds (monitorAfter masks cs) ++ left) rs e w
+    → AtOnce ((started masks) .hall) feed (takenReports masks cs ++ rs) e w
 unfolding monitorAfter takenReports startedOver
-hands-at-once masks pieces starts rs e w a = a
-hands-at-once masks pieces (calls {cs} {left} {c} outbox room before same rest) rs e w a =
+hands-at-once masks feed starts rs e w a = a
+hands-at-once masks feed (calls {cs} {left} {c = c} rest room before front after) rs e w a =
     let m : Monitor = monitorAfter masks cs in
-    let q : List ℕ = joined (restOf left) in
     let x : Result = call m (c .piece) (c .outbox) in
-    let piece : c .piece ≡ firstOf left = ap (λ (y : Made). y .piece) same in
-    let long : outboxNeeded ≤ length (c .outbox) = subst (λ (y : Made). outboxNeeded ≤ length (y .outbox)) (sym same) room in
-    let b : AtOnce (x .outcome .monitor .hall) (holds (x .outcome .monitor) ++ (drop (x .outcome .used) (c .piece) ++ q)) rs e w =
-    subst (λ (t : List ℕ). AtOnce (x .outcome .monitor .hall) (holds (x .outcome .monitor) ++ t) rs e w)
-    (ap joined rest ∙ first-used (x .outcome .used) left ∙ ap (λ (p : List ℕ). drop (x .outcome .used) p ++ q) (sym piece)) a in
-    let d : AtOnce (m .hall) (holds m ++ (c .piece ++ q)) (told x ++ rs) e w = call-at-once m (c .piece) (c .outbox) q long rs e w b in
-    let f : AtOnce (m .hall) (holds m ++ joined left) (told x ++ rs) e w =
-    subst (λ (t : List ℕ). AtOnce (m .hall) (holds m ++ t) (told x ++ rs) e w)
-    (ap (λ (p : List ℕ). p ++ q) piece ∙ sym (first-whole left)) d in
-    subst (λ (t : List (List ℕ)). AtOnce ((started masks) .hall) (joined pieces) t e w)
-    (sym (append-assoc (takenReports masks cs) (told x) rs)) (hands-at-once masks pieces before (told x ++ rs) e w f)
-hands-at-once masks pieces (passes before) rs e w a = hands-at-once masks pieces before rs e w a
+    let b : AtOnce (x .outcome .monitor .hall) (holds (x .outcome .monitor) ++ (drop (x .outcome .used) (c .piece) ++ rest)) rs e w =
+    subst (λ (t : List ℕ). AtOnce (x .outcome .monitor .hall) (holds (x .outcome .monitor) ++ t) rs e w) after a in
+    let d : AtOnce (m .hall) (holds m ++ left) (told x ++ rs) e w =
+    subst (λ (t : List ℕ). AtOnce (m .hall) (holds m ++ t) (told x ++ rs) e w) (sym front)
+    (call-at-once m (c .piece) (c .outbox) rest room rs e w b) in
+    subst (λ (t : List (List ℕ)). AtOnce ((started masks) .hall) feed t e w) (sym (append-assoc (takenReports masks cs) (told x) rs))
+    (hands-at-once masks feed before (told x ++ rs) e w d)

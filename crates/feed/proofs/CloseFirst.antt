@@ -1,10 +1,10 @@
 -- Demand 3, close: in the reports of any calls from fresh over an accepted map, a manifold's close command first appears in the earliest
 -- major cycle in which one of its jets has been bad three times as demand 3 words it; with no such cycle it never appears. Assumes nothing.
-use mathlib.Core.Path.{_≡_, refl, sym, ap, _∙_}
+use mathlib.Core.Path.{_≡_, sym, ap, subst, refl, _∙_}
 use mathlib.Core.Bool.{true, false}
 use mathlib.Core.List.{List, [], _∷_, _++_}
 use mathlib.Core.Logic.{_⊎_, inl, inr, _↔_}
-use Prim.Native.Nat.{ℕ, _<_}
+use Prim.Native.Nat.{ℕ, _+_, _<_}
 use lib.ListN.{getD}
 use Rattle.cycle.specs.Size.{stringCount, manifoldCount}
 use Rattle.cycle.specs.Answers.{isTaken, writesReport}
@@ -12,33 +12,37 @@ use Rattle.cycle.specs.Map.{refused}
 use Rattle.cycle.specs.Hall.{masksOf}
 use Rattle.cycle.specs.Proper.{FitMap}
 use Rattle.cycle.specs.Close.{EverThird}
-use Rattle.cycle.specs.Runs.{TakenRecord, jetHistory, JetThird}
+use Rattle.cycle.specs.Runs.{JetThird}
 use Rattle.cycle.specs.declared.answer.Answer.{Answer}
 use Rattle.cycle.specs.declared.answer.Answer.the-variants.{Taken, Stale, Repeat, CountEnded, WrongKind, OutboxShort, MapRefused}
 use Rattle.cycle.specs.declared.answer.Answer.the-variants.{NothingSettled}
+use Rattle.cycle.specs.declared.hall.Hall.{Hall}
 use Rattle.cycle.specs.declared.map.Masks.{Masks}
 use Rattle.cycle.proofs.RunClose.{close-exactly}
-use Rattle.feed.specs.Settled.{valuesIn}
+use Rattle.feed.specs.Settled.{recordIn}
+use Rattle.feed.specs.Answered.{apart}
+use Rattle.feed.specs.Heard.{Heard, reachedBy, jetHistory}
 use Rattle.feed.specs.Call.{holds}
 use Rattle.feed.specs.Calls.{Made, monitorAfter, resultOf, answerOf, takenRecords}
-use Rattle.feed.specs.CloseShown.{Shows, NeverShown, ThirdNow, Earliest}
-use Rattle.feed.proofs.CallRuns.{calls-kept}
-use Rattle.feed.proofs.ReportsTell.{reports-tell}
+use Rattle.feed.specs.CloseShown.{Shows, NeverShown, ThirdNow, ThirdEver, Earliest}
+use Rattle.feed.proofs.CallRuns.{Kept, calls-kept}
+use Rattle.feed.proofs.Carried.{history-carried}
+use Rattle.feed.proofs.ReportsTell.{asked-same, reports-tell}
 
 -- ---- the newest record or an earlier one
 
-third-either : (mask s i : ℕ) (t : TakenRecord) (ts : List TakenRecord) → JetThird mask s i (t ∷ ts)
-    → ThirdNow mask s i t ts ⊎ JetThird mask s i ts
+third-either : (mask s i : ℕ) (t : Heard) (ts : List Heard) → ThirdEver mask s i (t ∷ ts)
+    → ThirdNow mask s i t ts ⊎ ThirdEver mask s i ts
 third-either mask s i t ts x = by (x .third)
   where
-    by : EverThird (jetHistory s i (x .jet) (t ∷ ts)) → ThirdNow mask s i t ts ⊎ JetThird mask s i ts
+    by : EverThird (jetHistory s i (x .jet) (t ∷ ts)) → ThirdNow mask s i t ts ⊎ ThirdEver mask s i ts
     by (inl now) = inl (record { jet = x .jet; inWord = x .inWord; inMask = x .inMask; third = now })
     by (inr then) = inr (record { jet = x .jet; inWord = x .inWord; inMask = x .inMask; third = then })
 
-third-now : (mask s i : ℕ) (t : TakenRecord) (ts : List TakenRecord) → ThirdNow mask s i t ts → JetThird mask s i (t ∷ ts)
+third-now : (mask s i : ℕ) (t : Heard) (ts : List Heard) → ThirdNow mask s i t ts → ThirdEver mask s i (t ∷ ts)
 third-now mask s i t ts x = record { jet = x .jet; inWord = x .inWord; inMask = x .inMask; third = inl (x .third) }
 
-third-then : (mask s i : ℕ) (t : TakenRecord) (ts : List TakenRecord) → JetThird mask s i ts → JetThird mask s i (t ∷ ts)
+third-then : (mask s i : ℕ) (t : Heard) (ts : List Heard) → ThirdEver mask s i ts → ThirdEver mask s i (t ∷ ts)
 third-then mask s i t ts x = record { jet = x .jet; inWord = x .inWord; inMask = x .inMask; third = inr (x .third) }
 
 -- ---- the reports
@@ -48,20 +52,40 @@ module _ (masks : List Masks) (fit : FitMap masks) (accepted : refused stringCou
   abbrev mask : ℕ
   mask = getD (masksOf masks s) i 0
 
+  -- over the values that the records carry, and over their bytes
+  heard-third : {h : Hall} {ts : List Heard} (kept : Kept masks h ts) → JetThird mask s i (kept .values) → ThirdEver mask s i ts
+  heard-third kept x = record {
+    jet = x .jet;
+    inWord = x .inWord;
+    inMask = x .inMask;
+    third = subst EverThird (history-carried s i (x .jet) l (x .inWord) (kept .carry)) (x .third);
+  }
+
+  third-heard : {h : Hall} {ts : List Heard} (kept : Kept masks h ts) → ThirdEver mask s i ts → JetThird mask s i (kept .values)
+  third-heard kept x = record {
+    jet = x .jet;
+    inWord = x .inWord;
+    inMask = x .inMask;
+    third = subst EverThird (sym (history-carried s i (x .jet) l (x .inWord) (kept .carry))) (x .third);
+  }
+
   -- any report, also one that answers 1 to 4
   pub close-shown : (c : Made) (cs : List Made) → writesReport (answerOf masks c cs) ≡ true
-      → Shows masks s i c cs ↔ JetThird mask s i (takenRecords masks (c ∷ cs))
+      → Shows masks s i c cs ↔ ThirdEver mask s i (takenRecords masks (c ∷ cs))
   close-shown c cs w =
-      let told = reports-tell masks fit accepted c cs w in
       let kept = calls-kept masks fit accepted (c ∷ cs) in
-      let same = told .close s i l below ∙ sym (kept .run .told .closes s i l below) in
-      let exactly = close-exactly masks ((monitorAfter masks (c ∷ cs)) .hall) (takenRecords masks (c ∷ cs)) (kept .run) s i l below in
-      (λ e. exactly .0 (sym same ∙ e), λ x. same ∙ exactly .1 x)
+      let h : Hall = (monitorAfter masks (c ∷ cs)) .hall in
+      let same = reports-tell masks fit accepted c cs w .close s i l below
+      ∙ sym (asked-same masks h (takenRecords masks (c ∷ cs)) kept (answerOf masks c cs) s i l below) in
+      let exactly = close-exactly masks h (kept .values) (kept .run) s i l below in
+      (λ e. heard-third kept (exactly .0 (sym same ∙ e)), λ x. same ∙ exactly .1 (third-heard kept x))
 
   -- the record that the call c took
-  abbrev newest : Made → List Made → TakenRecord
-  newest c cs = record
-      { n = (resultOf masks c cs) .outcome .monitor .hall .n; values = valuesIn (holds (monitorAfter masks cs) ++ c .piece) }
+  abbrev newest : Made → List Made → Heard
+  newest c cs =
+      let r = recordIn (holds (monitorAfter masks cs) ++ c .piece) in
+      let n = reachedBy (takenRecords masks cs) in
+      record { n = n + apart n r; bytes = r }
 
   taken-grows : (c : Made) (cs : List Made) → answerOf masks c cs ≡ Taken
       → takenRecords masks (c ∷ cs) ≡ newest c cs ∷ takenRecords masks cs
@@ -87,24 +111,24 @@ module _ (masks : List Masks) (fit : FitMap masks) (accepted : refused stringCou
       by MapRefused e = g (ap isTaken e)
       by NothingSettled e = g (ap isTaken e)
 
-  never-to : (cs : List Made) → NeverShown masks s i cs → JetThird mask s i (takenRecords masks cs) → ⊥
+  never-to : (cs : List Made) → NeverShown masks s i cs → ThirdEver mask s i (takenRecords masks cs) → ⊥
   unfolding takenRecords
   never-to [] n x = x .third
   never-to (c ∷ cs) n x = by-answer c cs
       (λ e. n .0 e (close-shown c cs (ap writesReport e) .1 x))
       (λ f. never-to cs (n .1) (rw (taken-stays c cs f) at x))
 
-  never-from : (cs : List Made) → (JetThird mask s i (takenRecords masks cs) → ⊥) → NeverShown masks s i cs
+  never-from : (cs : List Made) → (ThirdEver mask s i (takenRecords masks cs) → ⊥) → NeverShown masks s i cs
   never-from [] f = tt
   never-from (c ∷ cs) f = (λ e y. f (close-shown c cs (ap writesReport e) .0 y), never-from cs (λ x. f (still c cs x)))
     where
-      still : (c : Made) (cs : List Made) → JetThird mask s i (takenRecords masks cs) → JetThird mask s i (takenRecords masks (c ∷ cs))
+      still : (c : Made) (cs : List Made) → ThirdEver mask s i (takenRecords masks cs) → ThirdEver mask s i (takenRecords masks (c ∷ cs))
       still c cs x = by-answer c cs
           (λ e. rw (taken-grows c cs e) (third-then mask s i (newest c cs) (takenRecords masks cs) x))
           (λ g. rw (taken-stays c cs g) x)
 
   -- "With no such cycle it never appears", and the reverse
-  pub close-never : (cs : List Made) → NeverShown masks s i cs ↔ (JetThird mask s i (takenRecords masks cs) → ⊥)
+  pub close-never : (cs : List Made) → NeverShown masks s i cs ↔ (ThirdEver mask s i (takenRecords masks cs) → ⊥)
   close-never cs = (never-to cs, never-from cs)
 
   -- it first appears in the report of the earliest such cycle, and in no other
@@ -112,16 +136,16 @@ module _ (masks : List Masks) (fit : FitMap masks) (accepted : refused stringCou
       → (Shows masks s i c cs × NeverShown masks s i cs) ↔ Earliest mask s i (takenRecords masks (c ∷ cs))
   close-first c cs e = rw (taken-grows c cs e) (to, back)
     where
-      t : TakenRecord
+      t : Heard
       t = newest c cs
 
-      ts : List TakenRecord
+      ts : List Heard
       ts = takenRecords masks cs
 
       to : Shows masks s i c cs × NeverShown masks s i cs → Earliest mask s i (t ∷ ts)
       to (y, n) = (by (third-either mask s i t ts (rw (taken-grows c cs e) at (close-shown c cs (ap writesReport e) .0 y))), never-to cs n)
         where
-          by : ThirdNow mask s i t ts ⊎ JetThird mask s i ts → ThirdNow mask s i t ts
+          by : ThirdNow mask s i t ts ⊎ ThirdEver mask s i ts → ThirdNow mask s i t ts
           by (inl now) = now
           by (inr then) = absurd (never-to cs n then)
 

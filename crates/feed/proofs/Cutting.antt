@@ -1,7 +1,7 @@
 -- Demand 3, cutting: however a feed is cut, and whatever whole stale or repeated records are put in where the reader holds no bytes, the
 -- reports that answer 0 are the same bytes and the end state is the same. Assumes nothing.
 use mathlib.Core.Path.{_≡_, refl, sym, ap, ap₂, subst, _∙_}
-use mathlib.Core.List.{List, [], _∷_, _++_, append-nil}
+use mathlib.Core.List.{List, [], _++_}
 use mathlib.Core.Logic.{inl, inr}
 use Prim.Native.Nat.{ℕ}
 use lib.ListN.{length, take, drop}
@@ -24,7 +24,7 @@ use Rattle.feed.specs.Values.{minorOf, majorOf, valuesOf}
 use Rattle.feed.specs.Good.{WholeRecord}
 use Rattle.feed.specs.Settled.{kindIn, recordIn, behindIn}
 use Rattle.feed.specs.Call.{holds, holding}
-use Rattle.feed.specs.Calls.{Made, monitorAfter, takenReports, joined, Finished}
+use Rattle.feed.specs.Calls.{Made, monitorAfter, takenReports, Finished}
 use Rattle.feed.specs.PutIn.{Old, PutIn, same, puts}
 use Rattle.feed.specs.declared.format.Kind.{Kind}
 use Rattle.feed.specs.declared.format.Kind.the-variants.{NoKind, Minor, Major}
@@ -88,10 +88,8 @@ put-in-at-once masks feed same rs e w a = a
 put-in-at-once masks feed (puts before r after n p clear whole old l) rs e w a =
     let h : Hall = (started masks) .hall in
     let m : Monitor = monitorAfter masks (clear .calls) in
-    let first : AtOnce h (before ++ []) (takenReports masks (clear .calls)) (m .hall) (holds m) =
-    finished-at-once masks (before ∷ []) (clear .calls) (clear .finished) in
     let front : AtOnce h before (takenReports masks (clear .calls)) (m .hall) [] =
-    rw (append-nil before, clear .empty) at first in
+    rw (clear .empty) at (finished-at-once masks before (clear .calls) (clear .finished)) in
     let rest = at-once-ends (m .hall) after in
     let plain : AtOnce h (before ++ after) (takenReports masks (clear .calls) ++ rest .reports) (rest .hall) (rest .waiting) =
     at-once-append after front (rest .all) in
@@ -109,14 +107,12 @@ pub record Alike (masks : List Masks) (cs ds : List Made) : Type 0 where
   pub monitor : monitorAfter masks cs ≡ monitorAfter masks ds
 
 pub cut-anywhere : (masks : List Masks) (feed longer : List ℕ) → PutIn masks feed longer
-    → (pieces others : List (List ℕ)) → joined pieces ≡ feed → joined others ≡ longer
-    → (cs ds : List Made) → Finished masks pieces cs → Finished masks others ds → Alike masks cs ds
-cut-anywhere masks feed longer p pieces others e f cs ds x y =
-    let h : Hall = (started masks) .hall in
+    → (cs ds : List Made) → Finished masks feed cs → Finished masks longer ds → Alike masks cs ds
+cut-anywhere masks feed longer p cs ds x y =
     let m : Monitor = monitorAfter masks cs in
     let k : Monitor = monitorAfter masks ds in
-    let a : AtOnce h feed (takenReports masks cs) (m .hall) (holds m) = rw e at (finished-at-once masks pieces cs x) in
-    let b : AtOnce h longer (takenReports masks ds) (k .hall) (holds k) = rw f at (finished-at-once masks others ds y) in
+    let a = finished-at-once masks feed cs x in
+    let b = finished-at-once masks longer ds y in
     let s = at-once-fixed (put-in-at-once masks feed p (takenReports masks cs) (m .hall) (holds m) a) b in
     record {
       reports = s .reports;

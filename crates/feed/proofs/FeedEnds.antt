@@ -1,4 +1,5 @@
--- Calls that have handed in a whole feed, the last of which settled nothing, leave what the feed looked at all at once does. Assumes nothing.
+-- Calls that have handed in a whole feed, the last of which settled nothing, leave what the feed looked at all at once does.
+-- Assumes nothing.
 use mathlib.Core.Path.{_≡_, refl, sym, ap, subst, _∙_}
 use mathlib.Core.List.{List, [], _∷_, _++_, append-nil}
 use Prim.Native.Nat.{ℕ, _≤_, _<_}
@@ -14,7 +15,7 @@ use Rattle.feed.specs.Size.{outboxNeeded}
 use Rattle.feed.specs.Reader.{settle}
 use Rattle.feed.specs.Settled.{kindIn, valuesIn}
 use Rattle.feed.specs.Call.{holds, holding, Result, called, call, settledAny}
-use Rattle.feed.specs.Calls.{Made, monitorAfter, takenReports, joined}
+use Rattle.feed.specs.Calls.{Made, monitorAfter, takenReports}
 use Rattle.feed.specs.Calls.{LastIdle, Finished}
 use Rattle.feed.specs.declared.format.Kind.the-variants.{NoKind}
 use Rattle.feed.specs.declared.call.Monitor.{Monitor}
@@ -67,12 +68,11 @@ unfolding monitorAfter
 last-idle masks [] e = absurd e
 last-idle masks (c ∷ cs) e = call-idle (monitorAfter masks cs) (c .piece) (c .outbox) e
 
-pub finished-at-once : (masks : List Masks) (pieces : List (List ℕ)) (cs : List Made) → Finished masks pieces cs
-    → AtOnce ((started masks) .hall) (joined pieces) (takenReports masks cs) ((monitorAfter masks cs) .hall) (holds (monitorAfter masks cs))
-finished-at-once masks pieces cs f =
+pub finished-at-once : (masks : List Masks) (feed : List ℕ) (cs : List Made) → Finished masks feed cs
+    → AtOnce ((started masks) .hall) feed (takenReports masks cs) ((monitorAfter masks cs) .hall) (holds (monitorAfter masks cs))
+finished-at-once masks feed cs f =
     let m : Monitor = monitorAfter masks cs in
     let i = last-idle masks cs (f .lastIdle) in
     let n : holds m ++ [] ≡ holds m = append-nil (holds m) in
-    subst (λ (t : List (List ℕ)). AtOnce ((started masks) .hall) (joined pieces) t (m .hall) (holds m)) (append-nil (takenReports masks cs))
-    (hands-at-once masks pieces (f .allUsed) [] (m .hall) (holds m)
-    (rests (ap kindIn n ∙ i .waits) (rw n (sym (i .settled)))))
+    subst (λ (t : List (List ℕ)). AtOnce ((started masks) .hall) feed t (m .hall) (holds m)) (append-nil (takenReports masks cs))
+    (hands-at-once masks feed (f .allUsed) [] (m .hall) (holds m) (rests (ap kindIn n ∙ i .waits) (rw n (sym (i .settled)))))

@@ -13,7 +13,7 @@ use Rattle.feed.specs.Format.{lengthOf}
 use Rattle.feed.specs.Reader.{settle}
 use Rattle.feed.specs.Settled.{kindIn}
 use Rattle.feed.specs.Call.{holds, holding, startedOver, Result, called, call}
-use Rattle.feed.specs.Calls.{Made, monitorAfter, joined, firstOf, usedOf, Hands, starts, calls, passes, Finished}
+use Rattle.feed.specs.Calls.{Made, monitorAfter, joined, firstOf, usedOf, HandsPieces, starts, calls, passes, FinishedPieces}
 use Rattle.feed.specs.declared.call.Monitor.{Monitor}
 use Rattle.feed.proofs.Lengths.{real-long}
 use Rattle.feed.proofs.Fronts.{settle-short, waits-short}
@@ -61,7 +61,7 @@ call-goes m piece out room = rw (call-called m piece out room) (goes-by m piece 
 
 pub record Ends (masks : List Masks) (pieces : List (List ℕ)) (most : ℕ) : Type 0 where
   pub made : List Made
-  pub finished : Finished masks pieces made
+  pub finished : FinishedPieces masks pieces made
   pub within : length made ≤ most
 
 abbrev pub room : List ℕ
@@ -76,7 +76,7 @@ callsLeft masks cs left = (length (holds (monitorAfter masks cs)) + length (join
 
 module _ (masks : List Masks) (pieces : List (List ℕ)) where
   abbrev Within : ℕ → Type 0
-  Within k = (cs : List Made) (left : List (List ℕ)) → Hands masks pieces cs left → callsLeft masks cs left < k
+  Within k = (cs : List Made) (left : List (List ℕ)) → HandsPieces masks pieces cs left → callsLeft masks cs left < k
       → Ends masks pieces (length cs + k)
 
   more-calls : (n k : ℕ) → Ends masks pieces (suc n + k) → Ends masks pieces (n + suc k)
@@ -89,7 +89,7 @@ module _ (masks : List Masks) (pieces : List (List ℕ)) where
       m : Monitor
       m = monitorAfter masks cs
 
-      by : (left : List (List ℕ)) → Hands masks pieces cs left → callsLeft masks cs left < suc k
+      by : (left : List (List ℕ)) → HandsPieces masks pieces cs left → callsLeft masks cs left < suc k
           → Idled m (firstOf left) (call m (firstOf left) room) ⊎ Shortened m (firstOf left) (call m (firstOf left) room)
           → Ends masks pieces (length cs + suc k)
       by [] h b (inl i) =

@@ -2,22 +2,25 @@
 use mathlib.Core.Path.{_≡_, refl, sym, ap, _∙_}
 use mathlib.Core.List.{List, _++_}
 use mathlib.Core.Logic.{_⊎_, inl, inr}
-use Prim.Native.Nat.{ℕ, _<_, _≤_}
+use Prim.Native.Nat.{ℕ, _+_, _<_, _≤_}
 use lib.ListN.{length, drop}
+use Rattle.cycle.specs.Answers.{isTaken}
 use Rattle.cycle.specs.Numbers.{judged}
 use Rattle.cycle.specs.Records.{Record, majorKind, common}
 use Rattle.cycle.specs.Hall.{steppedBy, stepped}
+use Rattle.cycle.specs.declared.answer.Answer.the-variants.{Taken}
 use Rattle.cycle.specs.declared.hall.Stepped.{Stepped}
 use Rattle.cycle.specs.declared.number.Verdict.{Verdict}
 use Rattle.cycle.proofs.Judgements.{Judgement, repeats, stale, ends, wrong, follows, judged-exactly}
 use Rattle.feed.specs.Report.{reportOf}
-use Rattle.feed.specs.Settled.{valuesIn}
-use Rattle.feed.specs.Answered.{Leaves}
+use Rattle.feed.specs.Settled.{kindIn, recordIn, valuesIn}
+use Rattle.feed.specs.Answered.{apart, Leaves}
 use Rattle.feed.specs.Call.{holds, holding, Result, called, call}
 use Rattle.feed.specs.declared.call.Monitor.{Monitor}
 use Rattle.feed.proofs.Lengths.{below-or}
 use Rattle.feed.proofs.Calling.{call-called}
 use Rattle.feed.proofs.CallCases.{CallCase, none, some, call-case}
+use Rattle.feed.proofs.StepAnswers.{taken-number}
 use Rattle.feed.proofs.Fixed.{short-call}
 
 -- a settled record, by the hall's verdict on it
@@ -41,7 +44,13 @@ leaves-step m piece out held used x e = by (judged (m .hall .n) ((common r) .wir
     by v (stale d) q = rw q (refl, refl)
     by v (ends a b d) q = rw q (refl, refl)
     by v (wrong a b d k) q = rw q (refl, refl)
-    by v (follows a b d k) q = rw q (sym (ap (λ (y : Stepped). y .hall) (sym e ∙ q)), refl)
+    by v (follows a b d k) q =
+        let n : x .hall .n ≡ m .hall .n + apart (m .hall .n) (recordIn (holds m ++ piece)) =
+        ap (λ (y : Stepped). y .hall .n) e
+        ∙ taken-number (m .hall) (kindIn (holds m ++ piece)) (recordIn (holds m ++ piece))
+        (ap (λ (y : Stepped). isTaken (y .answer)) (sym e ∙ q)) in
+        let a : x .answer ≡ Taken = ap (λ (y : Stepped). y .answer) q in
+        rw a (ap (λ (y : Stepped). y .hall) e, n, refl)
 
 leaves-by : (m : Monitor) (piece out : List ℕ) (c : Result) → CallCase m piece out c → Leaves (c .outcome .answer) m piece out c
 leaves-by m piece out c (none z) = (refl, refl, refl)

@@ -35,12 +35,15 @@ pub mod CallsAtOnce
 pub mod FeedEnds
 pub mod Cutting
 pub mod Finishing
+pub mod Pieces
 pub mod StepAnswers
 pub mod Fixed
 pub mod Answered
 pub mod Left
 pub mod Stops
 pub mod CallReads
+pub mod HeardValues
+pub mod Carried
 pub mod CallRuns
 pub mod ReportsTell
 pub mod CloseFirst

@@ -10,17 +10,19 @@ use lib.Bits.{and-le-l, or-lt}
 use lib.Dec.{eqb}
 use lib.ListN.{getD, take, drop}
 use lib.Seq.{take-at}
-use Rattle.bits.specs.Bit.{bit, wordBits}
+use Rattle.bits.specs.Bit.{bit, wordBits, any}
 use Rattle.bits.proofs.Bits.{bit-and, bit-past}
 use Rattle.bits.proofs.Yes.{not-both}
-use Rattle.cycle.specs.Size.{stringCount, manifoldCount, moduleCount}
+use Rattle.bits.proofs.Words.{any-same}
+use Rattle.cycle.specs.Size.{stringCount, jetCount, manifoldCount, moduleCount}
 use Rattle.cycle.specs.Answers.{writesReport}
+use Rattle.cycle.specs.Jets.{JetRecord, run, hasAsked}
 use Rattle.cycle.specs.Map.{mapped, refused}
 use Rattle.cycle.specs.Banks.{noBank}
 use Rattle.cycle.specs.Hall.{masksOf}
-use Rattle.cycle.specs.Views.{stringOf}
+use Rattle.cycle.specs.Views.{jetOf, stringOf}
 use Rattle.cycle.specs.Proper.{inMask, FitMap}
-use Rattle.cycle.specs.Runs.{TakenRecord, bankAfter}
+use Rattle.cycle.specs.Runs as runs
 use Rattle.cycle.specs.declared.answer.Answer.{Answer}
 use Rattle.cycle.specs.declared.answer.Answer.the-variants.{Taken, Stale, Repeat, CountEnded, WrongKind, OutboxShort, MapRefused}
 use Rattle.cycle.specs.declared.answer.Answer.the-variants.{NothingSettled}
@@ -28,19 +30,21 @@ use Rattle.cycle.specs.declared.banks.Bank.{Bank}
 use Rattle.cycle.specs.declared.hall.Hall.{Hall}
 use Rattle.cycle.specs.declared.jet.JetState.{JetState}
 use Rattle.cycle.specs.declared.map.Masks.{Masks}
-use Rattle.cycle.proofs.Maps.{mapped-jet, mapped-found}
+use Rattle.cycle.proofs.Maps.{mapped-jet, mapped-found, in-word}
 use Rattle.feed.specs.Size.{reportLength}
 use Rattle.feed.specs.Bytes.{four}
 use Rattle.feed.specs.Report.{headOf, reportedFail, reportOf}
 use Rattle.feed.specs.Answered.{Leaves}
 use Rattle.feed.specs.Call.{Result}
 use Rattle.feed.specs.Calls.{Made, monitorAfter, resultOf, answerOf, reportIn, takenRecords}
+use Rattle.feed.specs.Heard.{Heard, jetHistory, bankHeard}
 use Rattle.feed.specs.Tells.{Tells}
 use Rattle.feed.specs.declared.call.Monitor.{Monitor}
 use Rattle.feed.proofs.ReportLengths.{report-length}
 use Rattle.feed.proofs.ReportPlaces.{answer-at, n-at, fail-at, close-at, balance-at, lesser-at}
 use Rattle.feed.proofs.BalanceBits.{unbalanced-bit, oxidizer-bit, blank-bits, balance-byte}
 use Rattle.feed.proofs.Left.{call-leaves}
+use Rattle.feed.proofs.Carried.{reached-carried, history-carried, bank-carried}
 use Rattle.feed.proofs.CallRuns.{Kept, calls-kept}
 
 -- ---- words and bytes that fit
@@ -61,7 +65,7 @@ close-bit (suc (suc (suc (suc i)))) c l = absurd (omega arith)
 
 -- ---- the report of a hall that is told by the records taken
 
-module _ (masks : List Masks) (h : Hall) (ts : List TakenRecord) (kept : Kept masks h ts) (a : Answer) where
+module _ (masks : List Masks) (h : Hall) (ts : List Heard) (kept : Kept masks h ts) (a : Answer) where
   abbrev report : List ℕ
   report = reportOf a h
 
@@ -92,8 +96,23 @@ module _ (masks : List Masks) (h : Hall) (ts : List TakenRecord) (kept : Kept ma
       let byte : (stringOf h s) .close % 256 ≡ (stringOf h s) .close = mod-eq-of-lt (omega arith) in
       ap (bit i) (close-at a h s l ∙ byte) ∙ bit-past manifoldCount i ((stringOf h s) .close) fits b
 
-  bank-same : (m : ℕ) → m < moduleCount → getD (h .banks) m noBank ≡ bankAfter m ts
-  bank-same m l = kept .run .told .banks m l
+  bank-same : (m : ℕ) → m < moduleCount → getD (h .banks) m noBank ≡ bankHeard m ts
+  bank-same m l = kept .run .told .banks m l ∙ bank-carried m l (kept .carry)
+
+  -- a mapped jet, by the records heard
+  jet-same : (s i j : ℕ) → s < stringCount → i < manifoldCount → inMask (masksOf masks s) i j
+      → jetOf i j (stringOf h s) ≡ run (jetHistory s i j ts)
+  jet-same s i j l below stands =
+      let word = in-word manifoldCount (masksOf (h .masks) s) (kept .run .proper .disjoint s l .fits) i j below (here s i j stands) in
+      kept .run .told .jets s i j l below stands ∙ ap run (history-carried s i j l word (kept .carry))
+
+  pub asked-same : (s i : ℕ) → s < stringCount → i < manifoldCount
+      → bit i ((stringOf h s) .close) ≡ any jetCount (λ j. bit j (getD (masksOf masks s) i 0) && hasAsked (jetHistory s i j ts))
+  asked-same s i l below =
+      kept .run .told .closes s i l below
+      ∙ any-same jetCount (λ j. bit j (getD (masksOf masks s) i 0) && hasAsked (runs.jetHistory s i j (kept .values)))
+      (λ j. bit j (getD (masksOf masks s) i 0) && hasAsked (jetHistory s i j ts))
+      (λ j b. ap (λ (t : List JetRecord). bit j (getD (masksOf masks s) i 0) && hasAsked t) (history-carried s i j l b (kept .carry)))
 
   pub hall-tells : Tells masks a ts report
   unfolding reportOf headOf
@@ -101,15 +120,15 @@ module _ (masks : List Masks) (h : Hall) (ts : List TakenRecord) (kept : Kept ma
     long = report-length a h;
     mark = (refl, refl);
     answer = answer-at a h;
-    number = n-at a h (omega (arith, kept .fits .number)) ∙ kept .run .told .number;
+    number = n-at a h (omega (arith, kept .fits .number)) ∙ kept .run .told .number ∙ reached-carried (kept .carry);
     fail = λ s i j l below stands.
         fail-bit s j l
         ∙ ap (λ (b : Bool). b && bit j ((stringOf h s) .standing .fail))
         (mapped-jet (masksOf (h .masks) s) j manifoldCount i below (here s i j stands))
-        ∙ ap (λ (x : JetState). x .standing .fail) (kept .run .told .jets s i j l below stands);
+        ∙ ap (λ (x : JetState). x .standing .fail) (jet-same s i j l below stands);
     noMask = λ s j l none.
         fail-bit s j l ∙ ap (λ (b : Bool). b && bit j ((stringOf h s) .standing .fail)) (mapped-no s j none (bit j (jets s)) refl);
-    close = λ s i l below. ap (bit i) (close-at a h s l) ∙ close-bit i ((stringOf h s) .close) below ∙ kept .run .told .closes s i l below;
+    close = λ s i l below. ap (bit i) (close-at a h s l) ∙ close-bit i ((stringOf h s) .close) below ∙ asked-same s i l below;
     noManifold = no-manifold;
     unbalanced = λ m l.
         ap (bit m) (balance-at a h ∙ balance-byte (h .banks))
@@ -138,7 +157,7 @@ refused-report a m out c e o = ap (take reportLength) o ∙ front a (m .hall) (d
 
 left-report : (a : Answer) (m : Monitor) (piece out : List ℕ) (c : Result) → Leaves a m piece out c → writesReport a ≡ true
     → take reportLength (c .outbox) ≡ reportOf a (c .outcome .monitor .hall)
-left-report Taken m piece out c l w = ap (take reportLength) (l .1) ∙ front Taken (c .outcome .monitor .hall) (drop 34 out)
+left-report Taken m piece out c l w = ap (take reportLength) (l .2) ∙ front Taken (c .outcome .monitor .hall) (drop 34 out)
 left-report Stale m piece out c l w = refused-report Stale m out c (l .0) (l .1)
 left-report Repeat m piece out c l w = refused-report Repeat m out c (l .0) (l .1)
 left-report CountEnded m piece out c l w = refused-report CountEnded m out c (l .0) (l .1)

@@ -8,6 +8,8 @@ use native.Mathlib.Omega.{arith}
 use borrow.Author.Tests.{eq-eqb, ne-eqb}
 use lib.Dec.{ltb}
 use lib.ListN.{length}
+use Rattle.bits.proofs.Yes.{not-both}
+use Rattle.cycle.specs.Answers.{isTaken}
 use Rattle.cycle.specs.Numbers.{distance, isMajor, judged, following}
 use Rattle.cycle.specs.Records.{Record, majorKind, common}
 use Rattle.cycle.specs.Hall.{steppedBy, stepped}
@@ -16,6 +18,8 @@ use Rattle.cycle.specs.declared.hall.Hall.{Hall}
 use Rattle.cycle.specs.declared.hall.Stepped.{Stepped}
 use Rattle.cycle.specs.declared.number.Verdict.{Verdict}
 use Rattle.cycle.specs.declared.number.Verdict.the-variants.{Takes, Refuses}
+use Rattle.cycle.proofs.Judgements.{Judgement, repeats, stale, ends, wrong, follows, judged-exactly}
+use Rattle.cycle.proofs.HallAgrees.{number-after}
 use Rattle.cycle.proofs.Numbers.{judged-repeat, judged-stale, judged-follows, follows-ended, follows-wrong, follows-right}
 use Rattle.feed.specs.Format.{lengthOf}
 use Rattle.feed.specs.Values.{valuesOf, majorOfKinds}
@@ -100,3 +104,20 @@ module _ (h : Hall) (k : Kind) (r : List ℕ) (long : length r ≡ lengthOf k) w
         by : Matched (h .n + apart (h .n) r) r → isMajor (h .n + d) ≡ majorKind values
         by (inl (e, n)) = rw (far, kind-by true (major-is-major k (sym long ∙ n))) (multiple (h .n + apart (h .n) r) e)
         by (inr (e, n)) = rw (far, kind-by false (minor-not-major k (sym long ∙ n))) (no-multiple (h .n + apart (h .n) r) e)
+
+-- a taken record leads to the cycle number n + d
+pub taken-number : (h : Hall) (k : Kind) (r : List ℕ) → isTaken ((stepped (valuesOf k r) h) .answer) ≡ true
+    → (stepped (valuesOf k r) h) .hall .n ≡ h .n + apart (h .n) r
+unfolding stepped
+taken-number h k r t = by (judged (h .n) ((common v) .wire) (majorKind v)) (judged-exactly (h .n) _ _) t
+  where
+    v : Record
+    v = valuesOf k r
+
+    by : (x : Verdict) → Judgement (h .n) ((common v) .wire) (majorKind v) x → isTaken ((steppedBy x v h) .answer) ≡ true
+        → (steppedBy x v h) .hall .n ≡ h .n + apart (h .n) r
+    by x (repeats a) q = not-both false q refl
+    by x (stale a) q = not-both false q refl
+    by x (ends a b c) q = not-both false q refl
+    by x (wrong a b c o) q = not-both false q refl
+    by x (follows a b c o) q = number-after v _ h ∙ ap (λ (w : ℕ). h .n + distance (h .n) w) (wire-of k r)

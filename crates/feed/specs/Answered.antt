@@ -54,18 +54,19 @@ Condition NothingSettled n room r = (34 ≤ room) × (r ≡ [])
 -- ---- what is left
 
 -- "as before" and "report"
-abbrev pub Refused : Answer → Monitor → List ℕ → Result → Type 0
-Refused a m out c = (c .outcome .monitor .hall ≡ m .hall) × (c .outbox ≡ reportOf a (m .hall) ++ drop 34 out)
+abbrev pub AsBefore : Answer → Monitor → List ℕ → Result → Type 0
+AsBefore a m out c = (c .outcome .monitor .hall ≡ m .hall) × (c .outbox ≡ reportOf a (m .hall) ++ drop 34 out)
 
 -- columns "monitor" and "outbox"; "bytes after the 34th keep their values"
 abbrev pub Leaves : Answer → Monitor → List ℕ → List ℕ → Result → Type 0
 Leaves Taken m piece out c =
     (c .outcome .monitor .hall ≡ (stepped (valuesIn (holds m ++ piece)) (m .hall)) .hall)
+    × (c .outcome .monitor .hall .n ≡ m .hall .n + apart (m .hall .n) (recordIn (holds m ++ piece)))
     × (c .outbox ≡ reportOf Taken (c .outcome .monitor .hall) ++ drop 34 out)
-Leaves Stale m piece out c = Refused Stale m out c
-Leaves Repeat m piece out c = Refused Repeat m out c
-Leaves CountEnded m piece out c = Refused CountEnded m out c
-Leaves WrongKind m piece out c = Refused WrongKind m out c
+Leaves Stale m piece out c = AsBefore Stale m out c
+Leaves Repeat m piece out c = AsBefore Repeat m out c
+Leaves CountEnded m piece out c = AsBefore CountEnded m out c
+Leaves WrongKind m piece out c = AsBefore WrongKind m out c
 Leaves OutboxShort m piece out c =
     c ≡ record { outcome = record { answer = OutboxShort; used = 0; monitor = m }; outbox = out }
 Leaves MapRefused m piece out c = ⊥
@@ -73,8 +74,9 @@ Leaves NothingSettled m piece out c =
     (c .outcome .monitor .hall ≡ m .hall) × (c .outcome .used ≡ length piece) × (c .outbox ≡ out)
 
 -- The reader after a call that is not answered 5: what was held and what was used of the piece is bytes dropped, the record settled, and
--- the bytes held then, with zeros behind them; the record is whole; every byte dropped stood where no whole record starts; and the call
--- stopped at the very byte that settled the record: "exactly those up to the one that settled the record, none if held bytes did, or all".
+-- the bytes held then, with zeros behind them; the record is whole; every byte dropped stood where no whole record starts, whatever comes
+-- later; a whole record that stands behind the dropped bytes is settled; and the call stopped at the very byte that settled the record:
+-- "exactly those up to the one that settled the record, none if held bytes did, or all".
 pub record Read (m : Monitor) (piece : List ℕ) (c : Result) : Type 0 where
   pub dropped : List ℕ
   pub held : List ℕ
@@ -82,7 +84,9 @@ pub record Read (m : Monitor) (piece : List ℕ) (c : Result) : Type 0 where
   pub store : c .outcome .monitor ≡ holding (c .outcome .monitor .hall) held
   pub short : length held ≤ 614
   pub whole : (recordIn (holds m ++ piece) ≡ []) ⊎ WholeRecord (recordIn (holds m ++ piece))
-  pub noneLost : (i : ℕ) → i < length dropped → (r rest : List ℕ) → drop i (holds m ++ piece) ≡ r ++ rest → WholeRecord r → ⊥
+  pub noneLost : (i : ℕ) → i < length dropped → (later r rest : List ℕ) → drop i ((holds m ++ piece) ++ later) ≡ r ++ rest
+      → WholeRecord r → ⊥
+  pub settled : (r rest : List ℕ) → holds m ++ piece ≡ dropped ++ (r ++ rest) → WholeRecord r → recordIn (holds m ++ piece) ≡ r
   pub within : c .outcome .used ≤ length piece
   pub settles : recordIn (holds m ++ take (c .outcome .used) piece) ≡ recordIn (holds m ++ piece)
   pub notBefore : (u : ℕ) → u < c .outcome .used → recordIn (holds m ++ take u piece) ≡ []

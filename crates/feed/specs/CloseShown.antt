@@ -7,11 +7,10 @@ use Prim.Native.Nat.{ℕ, _+_, _*_, _<_}
 use lib.ListN.{getD}
 use Rattle.bits.specs.Bit.{bit}
 use Rattle.cycle.specs.Size.{jetCount}
-use Rattle.cycle.specs.Views.{jetRecord}
-use Rattle.cycle.specs.Close.{Third}
-use Rattle.cycle.specs.Runs.{TakenRecord, jetHistory, JetThird}
+use Rattle.cycle.specs.Close.{Third, EverThird}
 use Rattle.cycle.specs.declared.answer.Answer.the-variants.{Taken}
 use Rattle.cycle.specs.declared.map.Masks.{Masks}
+use Rattle.feed.specs.Heard.{Heard, jetHeard, jetHistory}
 use Rattle.feed.specs.Calls.{Made, answerOf, reportIn}
 
 -- the report of the call c, made after the calls cs, has the close command
@@ -24,13 +23,20 @@ NeverShown masks s i [] = Unit {0}
 NeverShown masks s i (c ∷ cs) = (answerOf masks c cs ≡ Taken → Shows masks s i c cs → ⊥) × NeverShown masks s i cs
 
 -- at the record t, taken after ts, one of the manifold's jets "has been bad at that and the two major cycles before", as demand 3 words it
-pub record ThirdNow (mask s i : ℕ) (t : TakenRecord) (ts : List TakenRecord) : Type 0 where
+pub record ThirdNow (mask s i : ℕ) (t : Heard) (ts : List Heard) : Type 0 where
   pub jet : ℕ
   pub inWord : jet < jetCount
   pub inMask : bit jet mask ≡ true
-  pub third : Third (jetRecord (t .n) s i jet (t .values)) (jetHistory s i jet ts)
+  pub third : Third (jetHeard s i jet t) (jetHistory s i jet ts)
+
+-- at the newest record taken or an earlier one
+pub record ThirdEver (mask s i : ℕ) (ts : List Heard) : Type 0 where
+  pub jet : ℕ
+  pub inWord : jet < jetCount
+  pub inMask : bit jet mask ≡ true
+  pub third : EverThird (jetHistory s i jet ts)
 
 -- the newest of the records taken is "the earliest major cycle in which" this is so
-abbrev pub Earliest : ℕ → ℕ → ℕ → List TakenRecord → Type 0
+abbrev pub Earliest : ℕ → ℕ → ℕ → List Heard → Type 0
 Earliest mask s i [] = ⊥
-Earliest mask s i (t ∷ ts) = ThirdNow mask s i t ts × (JetThird mask s i ts → ⊥)
+Earliest mask s i (t ∷ ts) = ThirdNow mask s i t ts × (ThirdEver mask s i ts → ⊥)

@@ -9,6 +9,7 @@ pub mod Report
 pub mod Settled
 pub mod Call
 pub mod Answered
+pub mod Heard
 pub mod Calls
 pub mod Tells
 pub mod CloseShown

@@ -8,7 +8,7 @@ use Rattle.cycle.specs.Size.{stringCount, manifoldCount}
 use Rattle.cycle.specs.Each.{each}
 use Rattle.cycle.specs.Map.{noMasks, pastMasks}
 use Rattle.cycle.specs.Hall.{freshHall}
-use Rattle.cycle.specs.declared.answer.Answer.the-variants.{MapRefused}
+use Rattle.cycle.specs.declared.answer.Answer.the-variants.{NothingSettled}
 use Rattle.cycle.specs.declared.map.Masks.{Masks}
 use Rattle.feed.specs.Size.{mapLength, masksLength}
 use Rattle.feed.specs.Bytes.{four}
@@ -26,8 +26,8 @@ masksAt l i = record { words = maskWordsAt manifoldCount l i }
 unfoldable pub masksOfBytes : ℕ → List ℕ → List Masks
 masksOfBytes n l = each n (λ s x. masksAt l (masksLength * s)) pastMasks (replicate stringCount noMasks)
 
--- starting over the map that the bytes give; short masks are refused as overlapping ones are
+-- starting over the map that 64 bytes give; bytes of any other number are no map: nothing is settled, and 6 is not given for it
 unfoldable pub startedFrom : List ℕ → Outcome
 startedFrom l =
     cond (eqb (length l) mapLength) (startedOver (masksOfBytes stringCount l))
-    (record { answer = MapRefused; used = 0; monitor = holding (freshHall (replicate stringCount noMasks)) [] })
+    (record { answer = NothingSettled; used = 0; monitor = holding (freshHall (replicate stringCount noMasks)) [] })

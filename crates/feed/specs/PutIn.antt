@@ -1,6 +1,6 @@
 -- Records put into a feed: demand 3, "put in whole stale or repeated records where the reader holds no bytes". Assumes nothing.
 use mathlib.Core.Path.{_≡_}
-use mathlib.Core.List.{List, [], _∷_, _++_}
+use mathlib.Core.List.{List, [], _++_}
 use mathlib.Core.Logic.{_⊎_}
 use Prim.Native.Nat.{ℕ, _≤_}
 use Rattle.cycle.specs.declared.map.Masks.{Masks}
@@ -16,7 +16,7 @@ Old n r = (apart n r ≡ 0) ⊎ (32768 ≤ apart n r)
 -- all bytes before settle completely, the reader holds none behind them, and the cycle number is n there
 pub record Clear (masks : List Masks) (before : List ℕ) (n : ℕ) : Type 0 where
   pub calls : List Made
-  pub finished : Finished masks (before ∷ []) calls
+  pub finished : Finished masks before calls
   pub empty : holds (monitorAfter masks calls) ≡ []
   pub number : (monitorAfter masks calls) .hall .n ≡ n
 

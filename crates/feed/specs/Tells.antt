@@ -10,14 +10,14 @@ use Rattle.cycle.specs.Answers.{numberOf}
 use Rattle.cycle.specs.Jets.{run, hasAsked}
 use Rattle.cycle.specs.Hall.{masksOf}
 use Rattle.cycle.specs.Proper.{inMask}
-use Rattle.cycle.specs.Runs.{TakenRecord, jetHistory, bankAfter, reachedBy}
 use Rattle.cycle.specs.declared.answer.Answer.{Answer}
 use Rattle.cycle.specs.declared.map.Masks.{Masks}
 use Rattle.feed.specs.Bytes.{two, four}
+use Rattle.feed.specs.Heard.{Heard, reachedBy, jetHistory, bankHeard}
 
 -- "Report, 34 bytes: 52 52; answer; n after it (4); for each string the fail word (4) and close byte (1); balance byte; three lesser
 -- quantities (2 each)." Each bit of it by the run of `Jets` from fresh over the jet's own values in the records taken.
-pub record Tells (masks : List Masks) (a : Answer) (ts : List TakenRecord) (report : List ℕ) : Type 0 where
+pub record Tells (masks : List Masks) (a : Answer) (ts : List Heard) (report : List ℕ) : Type 0 where
   pub long : length report ≡ 34
   pub mark : (getD report 0 0 ≡ 0x52) × (getD report 1 0 ≡ 0x52)
   pub answer : getD report 2 0 ≡ numberOf a
@@ -33,7 +33,7 @@ pub record Tells (masks : List Masks) (a : Answer) (ts : List TakenRecord) (repo
       ≡ any jetCount (λ j. bit j (getD (masksOf masks s) i 0) && hasAsked (jetHistory s i j ts))
   pub noManifold : (s i : ℕ) → s < stringCount → manifoldCount ≤ i → bit i (getD report (7 + 5 * s + 4) 0) ≡ false
   -- "Balance: bit m set if module m is out of balance, bit 4+m if its oxidizer is the lesser."
-  pub unbalanced : (m : ℕ) → m < moduleCount → bit m (getD report 27 0) ≡ (bankAfter m ts) .unbalanced
-  pub oxidizer : (m : ℕ) → m < moduleCount → bit (4 + m) (getD report 27 0) ≡ (bankAfter m ts) .oxidizer
+  pub unbalanced : (m : ℕ) → m < moduleCount → bit m (getD report 27 0) ≡ (bankHeard m ts) .unbalanced
+  pub oxidizer : (m : ℕ) → m < moduleCount → bit (4 + m) (getD report 27 0) ≡ (bankHeard m ts) .oxidizer
   pub noModule : (bit 3 (getD report 27 0) ≡ false) × (bit 7 (getD report 27 0) ≡ false)
-  pub lesser : (m : ℕ) → m < moduleCount → two report (28 + 2 * m) ≡ (bankAfter m ts) .lesser
+  pub lesser : (m : ℕ) → m < moduleCount → two report (28 + 2 * m) ≡ (bankHeard m ts) .lesser

@@ -203,7 +203,7 @@ impl Monitor {
         }
     }
 
-    // A fresh monitor over the map that 64 bytes give; bytes of another number are refused.
+    // A fresh monitor over the map that 64 bytes give; bytes of another number are no map, and settle nothing.
     pub fn start_from(bytes: &[u8]) -> Outcome
         ensures { λ r. ⌜ r ≡ startedFrom (now (bytes .entry)) ⌝ }
     {
@@ -220,7 +220,7 @@ impl Monitor {
                 count: 0,
             };
             Outcome {
-                answer: Answer::MapRefused,
+                answer: Answer::NothingSettled,
                 used: 0,
                 monitor: monitor,
             }

@@ -12,12 +12,11 @@ use Rattle.bits.specs.Bit.{bit, wordBits}
 use Rattle.bits.proofs.Yes.{not-both, and-both}
 use Rattle.cycle.specs.Answers.{isTaken, writesReport}
 use Rattle.cycle.specs.Proper.{FitMap}
-use Rattle.cycle.specs.Runs.{JetThird}
 use Rattle.cycle.specs.declared.answer.Answer.the-variants.{Taken}
 use Rattle.feed.specs.Size.{reportLength}
 use Rattle.feed.specs.Call.{Result}
 use Rattle.feed.specs.Calls.{answerOf, takenRecords}
-use Rattle.feed.specs.CloseShown.{Shows, NeverShown, Earliest}
+use Rattle.feed.specs.CloseShown.{Shows, NeverShown, Earliest, ThirdEver}
 use Rattle.feed.proofs.CloseFirst.{close-shown, close-never, close-first}
 use Rattle.promises.specs.NightRecords.{nightMap}
 use Rattle.promises.specs.Instance.{majorBytes}
@@ -107,11 +106,11 @@ pub longer-earliest : Earliest 0x0000000F 0 0 (takenRecords nightMap (handing (m
 longer-earliest = earliest-by longerTo50 longer-close
 
 -- one of the manifold's jets has been bad so up to record 75
-pub third-by-75 : JetThird 0x0000000F 0 0 (takenRecords nightMap (handing (majorBytes 75) ∷ madeOf feedTo50))
+pub third-by-75 : ThirdEver 0x0000000F 0 0 (takenRecords nightMap (handing (majorBytes 75) ∷ madeOf feedTo50))
 third-by-75 =
     close-shown nightMap night-fits night-accepted 0 0 first first (handing (majorBytes 75)) (madeOf feedTo50)
     (ap writesReport (feed-close .answer)) .0 (feed-close .shown)
 
 -- and none up to record 50
-pub none-by-50 : JetThird 0x0000000F 0 0 (takenRecords nightMap (madeOf feedTo50)) → ⊥
+pub none-by-50 : ThirdEver 0x0000000F 0 0 (takenRecords nightMap (madeOf feedTo50)) → ⊥
 none-by-50 = close-never nightMap night-fits night-accepted 0 0 first first (madeOf feedTo50) .0 (feed-close .never)

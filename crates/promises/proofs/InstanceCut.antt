@@ -11,7 +11,8 @@ use Rattle.cycle.specs.Answers.{isTaken}
 use Rattle.feed.specs.Size.{reportLength}
 use Rattle.feed.specs.Good.{WholeRecord}
 use Rattle.feed.specs.Call.{holding, holds, Result}
-use Rattle.feed.specs.Calls.{monitorAfter, takenReports, joined}
+use Rattle.feed.specs.Calls.{monitorAfter, takenReports, Finished, joined}
+use Rattle.feed.proofs.Pieces.{pieces-finish}
 use Rattle.feed.specs.PutIn.{Old, Clear, PutIn, same, puts}
 use Rattle.feed.specs.declared.call.Monitor.{Monitor}
 use Rattle.feed.specs.declared.format.Kind.the-variants.{Minor, Major}
@@ -80,10 +81,19 @@ pub others-join : joined others ≡ longer
 unfolding warmWords majorBytes minorBytes
 others-join = refl
 
+pub feed-handed : Finished nightMap feed (madeOf feedCalls)
+feed-handed =
+    subst (λ (t : List ℕ). Finished nightMap t (madeOf feedCalls)) pieces-join
+    (pieces-finish nightMap pieces (madeOf feedCalls) feed-finished)
+
+pub longer-handed : Finished nightMap longer (madeOf longerCalls)
+longer-handed =
+    subst (λ (t : List ℕ). Finished nightMap t (madeOf longerCalls)) others-join
+    (pieces-finish nightMap others (madeOf longerCalls) longer-finished)
+
 pub cut-same : Alike nightMap (madeOf feedCalls) (madeOf longerCalls)
 cut-same =
-    cut-anywhere nightMap feed longer records-put-in pieces others pieces-join others-join (madeOf feedCalls) (madeOf longerCalls)
-    feed-finished longer-finished
+    cut-anywhere nightMap feed longer records-put-in (madeOf feedCalls) (madeOf longerCalls) feed-handed longer-handed
 
 -- ---- the reports
 

@@ -1,51 +1,51 @@
 -- The front door: what the customer asked for, each demand as theorems about the very definitions that the contracts cite: `call`,
--- `startedOver` and `runs` (feed, specs/Call), which `Monitor::call`, `start` and `run` meet for every state, piece and outbox. The words
--- of each statement are defined in specs/ of `feed` and `cycle`; each proof is a citation. Assumes nothing.
-use mathlib.Core.Path.{_≡_, refl, sym, _∙_}
-use mathlib.Core.Bool.{Bool, true, false}
-use mathlib.Core.List.{List, [], _∷_, _++_}
-use mathlib.Core.Logic.{_↔_}
-use Prim.Native.Nat.{ℕ, _+_, _/_, _<_, _≤_}
+-- `startedOver`, `startedFrom` and `runs` (feed, specs/Call and Masks), which `Monitor::call`, `start`, `start_from` and `run` meet for
+-- every state, piece and outbox. The words of each statement are defined in specs/ of `feed` and `cycle`; each proof is a citation.
+-- Assumes nothing.
+use mathlib.Core.Path.{_≡_, sym, _∙_}
+use mathlib.Core.Bool.{true, false}
+use mathlib.Core.List.{List, _∷_, _++_}
+use mathlib.Core.Logic.{_⊎_, _↔_}
+use Prim.Native.Nat.{ℕ, _+_, _*_, _/_, _<_, _≤_}
 use lib.ListN.{length, getD}
 use Rattle.cycle.specs.Size.{stringCount, manifoldCount}
 use Rattle.cycle.specs.Answers.{writesReport}
-use Rattle.cycle.specs.Map.{refused}
+use Rattle.cycle.specs.Numbers.{missedMajor}
+use Rattle.cycle.specs.Leak.{leaks}
+use Rattle.cycle.specs.Banks.{weighed}
 use Rattle.cycle.specs.Jets.{JetRecord, reached, run, asksAt}
 use Rattle.cycle.specs.Hall.{masksOf}
+use Rattle.cycle.specs.Map.{refused}
 use Rattle.cycle.specs.Proper.{FitMap}
 use Rattle.cycle.specs.Close.{Rising, Third}
-use Rattle.cycle.specs.Runs.{JetThird}
 use Rattle.cycle.specs.declared.answer.Answer.{Answer}
 use Rattle.cycle.specs.declared.answer.Answer.the-variants.{Taken}
 use Rattle.cycle.specs.declared.map.Masks.{Masks}
+use Rattle.cycle.specs.declared.values.Quantities.{Quantities}
+use Rattle.cycle.proofs.Balance.{Weighed, weighed-exactly}
+use Rattle.cycle.proofs.Leaks.{leaks-exactly}
+use Rattle.cycle.proofs.Numbers.{missed-is-between}
 use Rattle.cycle.proofs.Close.{asks-third}
 use Rattle.feed.specs.Settled.{recordIn}
 use Rattle.feed.specs.Answered.{Condition, Leaves, Read, Starts}
 use Rattle.feed.specs.Call.{holds, startedOver, call, runs}
-use Rattle.feed.specs.Calls.{Made, monitorAfter, answerOf, reportIn, takenReports, takenRecords, joined, Hands, Finished}
+use Rattle.feed.specs.Masks.{masksOfBytes, startedFrom}
+use Rattle.feed.specs.Calls.{Made, monitorAfter, answerOf, reportIn, takenReports, takenRecords, Hands, Finished, joined, FinishedPieces}
 use Rattle.feed.specs.PutIn.{PutIn}
 use Rattle.feed.specs.Tells.{Tells}
-use Rattle.feed.specs.CloseShown.{Shows, NeverShown, Earliest}
+use Rattle.feed.specs.CloseShown.{Shows, NeverShown, ThirdEver, Earliest}
 use Rattle.feed.specs.Batch.{Continues}
 use Rattle.feed.specs.declared.call.Monitor.{Monitor}
-use Rattle.feed.proofs.Answered as answered
+use Rattle.feed.proofs.Answered.{answers-exactly}
 use Rattle.feed.proofs.Left.{call-leaves}
 use Rattle.feed.proofs.CallReads.{call-reads}
-use Rattle.feed.proofs.Starting.{starts-exactly}
+use Rattle.feed.proofs.Starting as starting
 use Rattle.feed.proofs.ReportsTell as reports
 use Rattle.feed.proofs.Cutting as cutting
 use Rattle.feed.proofs.Finishing as finishing
+use Rattle.feed.proofs.Pieces as inPieces
 use Rattle.feed.proofs.CloseFirst as close
 use Rattle.feed.proofs.Batches.{batch-continues}
-use Rattle.promises.specs.NightHolds.{EachHolds}
-use Rattle.promises.specs.Nights.{nights}
-use Rattle.promises.specs.NightRecords.{nightMap}
-use Rattle.promises.specs.Instance.{feed, pieces, longer, others}
-use Rattle.promises.specs.InstanceCalls.{madeOf, feedTo50, feedCalls, longerTo50, longerCalls, threeReports, Appears}
-use Rattle.promises.proofs.Nights as computed
-use Rattle.promises.proofs.InstanceFinished.{feed-finished, longer-finished}
-use Rattle.promises.proofs.InstanceCut.{records-put-in, feed-reports, longer-reports}
-use Rattle.promises.proofs.InstanceClose.{feed-close, longer-close}
 
 -- ---- Demand 1: "The refusals are numbered, each given under its stated condition and no other; after one, monitor and outbox are as the
 -- table says." That a call stays within its memory and ends is part of what a proved contract of `Monitor::call` says.
@@ -54,7 +54,7 @@ use Rattle.promises.proofs.InstanceClose.{feed-close, longer-close}
 -- the record that the call settles, the cycle number and the outbox's length.
 pub answers : (m : Monitor) (piece out : List ℕ) (a : Answer)
     → ((call m piece out) .outcome .answer ≡ a) ↔ Condition a (m .hall .n) (length out) (recordIn (holds m ++ piece))
-answers = answered.answers-exactly
+answers = answers-exactly
 
 -- so exactly one condition holds
 pub one-answer : (m : Monitor) (piece out : List ℕ) (a b : Answer)
@@ -66,86 +66,84 @@ one-answer m piece out a b x y = sym (answers m piece out a .1 x) ∙ answers m 
 pub leaves : (m : Monitor) (piece out : List ℕ) → Leaves ((call m piece out) .outcome .answer) m piece out (call m piece out)
 leaves = call-leaves
 
--- what the reader drops, settles and holds, and where it stops, on every answer but 5: whole records only, none lost, at most 614 bytes
--- held
+-- on every answer but 5, what the reader drops, settles and holds, and where it stops: whole records only, and no whole one is dropped
 pub reads : (m : Monitor) (piece out : List ℕ) → 34 ≤ length out → Read m piece (call m piece out)
 reads = call-reads
 
--- starting: 6 if and only if some jet stands in two masks of one string
+-- starting: 6 if and only if some jet stands in two masks of one string; the map may come as 64 bytes
 pub starts : (masks : List Masks) → FitMap masks → Starts masks (startedOver masks)
-starts = starts-exactly
+starts = starting.starts-exactly
 
--- ---- From fresh over an accepted map
+pub starts-from : (l : List ℕ) → length l ≡ 64 → startedFrom l ≡ startedOver (masksOfBytes stringCount l)
+starts-from = starting.starts-from
+
+pub bytes-fit : (l : List ℕ) → ((i : ℕ) → getD l i 0 < 256) → FitMap (masksOfBytes stringCount l)
+bytes-fit = starting.bytes-fit
+
+-- ---- Demand 3, cutting, from fresh: "cut the feed anywhere, put in whole stale or repeated records where the reader holds no bytes, call
+-- with a long enough outbox until all is used and the last call settled nothing: the reports that answer 'taken' are the same byte for
+-- byte, and so is the end state."
+
+pub cut-anywhere : (masks : List Masks) (feed longer : List ℕ) → PutIn masks feed longer
+    → (cs ds : List Made) → Finished masks feed cs → Finished masks longer ds
+    → (takenReports masks cs ≡ takenReports masks ds) × (monitorAfter masks cs ≡ monitorAfter masks ds)
+cut-anywhere masks feed longer p cs ds x y =
+    let same = cutting.cut-anywhere masks feed longer p cs ds x y in (same .reports, same .monitor)
+
+-- every list of pieces has such calls: no more than one for each 59 bytes, one for each piece, and one
+pub every-cut-ends : (masks : List Masks) (pieces : List (List ℕ))
+    → (cs : List Made) × FinishedPieces masks pieces cs × (length cs ≤ length (joined pieces) / 59 + length pieces + 1)
+every-cut-ends masks pieces = let x = finishing.every-cut-ends masks pieces in (x .made, x .finished, x .within)
+
+pub pieces-finish : (masks : List Masks) (pieces : List (List ℕ)) (cs : List Made) → FinishedPieces masks pieces cs
+    → Finished masks (joined pieces) cs
+pieces-finish = inPieces.pieces-finish
+
+-- the step that `watch` repeats over what it has read, `Monitor::run`, is such calls (that `main` repeats it is tested, not proved)
+pub run-is-calls : (masks : List Masks) (feed behind : List ℕ) (n : ℕ) (cs : List Made) (piece : List ℕ)
+    → Hands masks feed cs (piece ++ behind) → Continues masks feed cs piece behind n (runs n (monitorAfter masks cs) piece)
+run-is-calls = batch-continues
+
+-- ---- From fresh over an accepted map, after any calls at all
 
 module _ (masks : List Masks) (words : FitMap masks) (accepted : refused stringCount masks ≡ false) where
-  -- Demand 2: "Each reported bit equals what the jet-by-jet rules say for the records taken so far." In every report of any calls, also one
-  -- that answers 1 to 4.
+  -- Demand 2: "Each reported bit equals what the jet-by-jet rules say for the records taken so far." In every report, also one that
+  -- answers 1 to 4.
   pub reports-tell : (c : Made) (cs : List Made) → writesReport (answerOf masks c cs) ≡ true
       → Tells masks (answerOf masks c cs) (takenRecords masks (c ∷ cs)) (reportIn masks c cs)
   reports-tell = reports.reports-tell masks words accepted
 
-  -- Demand 3, cutting: "cut the feed anywhere, put in whole stale or repeated records where the reader holds no bytes, call with a long
-  -- enough outbox until all is used and the last call settled nothing: the reports that answer 'taken' are the same byte for byte, and so
-  -- is the end state."
-  pub cut-anywhere : (feed longer : List ℕ) → PutIn masks feed longer
-      → (pieces others : List (List ℕ)) → joined pieces ≡ feed → joined others ≡ longer
-      → (cs ds : List Made) → Finished masks pieces cs → Finished masks others ds
-      → (takenReports masks cs ≡ takenReports masks ds) × (monitorAfter masks cs ≡ monitorAfter masks ds)
-  cut-anywhere feed longer p pieces others e f cs ds x y =
-      let same = cutting.cut-anywhere masks feed longer p pieces others e f cs ds x y in (same .reports, same .monitor)
-
-  -- every list of pieces has such calls: no more than one for each 59 bytes, one for each piece, and one
-  pub every-cut-ends : (pieces : List (List ℕ))
-      → (cs : List Made) × Finished masks pieces cs × (length cs ≤ length (joined pieces) / 59 + length pieces + 1)
-  every-cut-ends pieces = let x = finishing.every-cut-ends masks pieces in (x .made, x .finished, x .within)
-
   -- Demand 3, close, for manifold i of string s
   module _ (s i : ℕ) (string : s < stringCount) (manifold : i < manifoldCount) where
-    -- the close command is in a report if and only if the newest record taken or an earlier one is such a third major cycle for one of the
-    -- manifold's jets
+    -- the close command is in a report if and only if the newest record taken or an earlier one is such a third major cycle
     pub close-shown : (c : Made) (cs : List Made) → writesReport (answerOf masks c cs) ≡ true
-        → Shows masks s i c cs ↔ JetThird (getD (masksOf masks s) i 0) s i (takenRecords masks (c ∷ cs))
+        → Shows masks s i c cs ↔ ThirdEver (getD (masksOf masks s) i 0) s i (takenRecords masks (c ∷ cs))
     close-shown = close.close-shown masks words accepted s i string manifold
 
-    -- "a manifold's close command first appears in the earliest major cycle in which one of its jets has been bad at that and the two major
-    -- cycles before, .."
+    -- "a manifold's close command first appears in the earliest major cycle in which one of its jets has been bad at that and the two
+    -- major cycles before, .."
     pub close-first : (c : Made) (cs : List Made) → answerOf masks c cs ≡ Taken
         → (Shows masks s i c cs × NeverShown masks s i cs) ↔ Earliest (getD (masksOf masks s) i 0) s i (takenRecords masks (c ∷ cs))
     close-first = close.close-first masks words accepted s i string manifold
 
     -- "With no such cycle it never appears."
     pub close-never : (cs : List Made)
-        → NeverShown masks s i cs ↔ (JetThird (getD (masksOf masks s) i 0) s i (takenRecords masks cs) → ⊥)
+        → NeverShown masks s i cs ↔ (ThirdEver (getD (masksOf masks s) i 0) s i (takenRecords masks cs) → ⊥)
     close-never = close.close-never masks words accepted s i string manifold
 
--- the local law: a jet asks for the close at a taken record if and only if the record is such a third
+-- ---- The small rules that jets and packed words share, in plain arithmetic
+
+pub leaks-below-64 : (fuel oxidizer : ℕ) → (leaks fuel oxidizer ≡ true) ↔ ((fuel < 64) ⊎ (oxidizer < 64))
+leaks-below-64 = leaks-exactly
+
+pub balance-by-16 : (q : Quantities) → Weighed (q .fuel) (q .oxidizer) (weighed q)
+balance-by-16 = weighed-exactly
+
+pub missed-is-multiple : (old new : ℕ) → (missedMajor old new ≡ true) ↔ ((k : ℕ) × (old < k * 25) × (k * 25 < new))
+missed-is-multiple = missed-is-between
+
+-- a jet asks for the close at a taken record if and only if the record is the third of three as demand 3 words it
 pub jet-asks : (h : List JetRecord) (r : JetRecord) → Rising (r ∷ h) → (asksAt (reached h) r (run h) ≡ true) ↔ Third r h
 jet-asks = asks-third
 
--- ---- The program: the step that `watch` repeats over what it has read (`Monitor::run`) is calls as demand 3 speaks of them
-
-pub watch-steps : (masks : List Masks) (pieces behind : List (List ℕ)) (n : ℕ) (cs : List Made) (piece : List ℕ)
-    → Hands masks pieces cs (piece ∷ behind) → Continues masks pieces cs piece behind (runs n (monitorAfter masks cs) piece)
-watch-steps = batch-continues
-
--- ---- One outcome for each input: Unique*.antt, a theorem for each public function
-
--- ---- Nights: those that document 01 marks, each from fresh through every cycle, by computing the definitions
-
-pub nights-hold : EachHolds nights
-nights-hold = computed.nights-hold
-
--- ---- The premises can be met: three major records cut inside one, the same with a repeated and a stale record put in and cut inside both,
--- and the close command in the third report alone
-
-pub instance-put-in : PutIn nightMap feed longer
-instance-put-in = records-put-in
-
-pub instance-finished : Finished nightMap pieces (madeOf feedCalls) × Finished nightMap others (madeOf longerCalls)
-instance-finished = (feed-finished, longer-finished)
-
-pub instance-reports : (takenReports nightMap (madeOf feedCalls) ≡ threeReports) × (takenReports nightMap (madeOf longerCalls) ≡ threeReports)
-instance-reports = (feed-reports, longer-reports)
-
-pub instance-closes : Appears feedTo50 × Appears longerTo50
-instance-closes = (feed-close, longer-close)
+-- Beside this file: one outcome for every public function (Unique*), starred nights (Nights), premises that are met (Instance*)

@@ -62,5 +62,5 @@ abbrev pub atMajors : ℕ → Sample → Sample
 atMajors n sample = cond (isMajor n) sample quietSample
 
 -- a module's fuel and oxidizer
-abbrev pub holding : ℕ → ℕ → Quantities
-holding fuel oxidizer = record { fuel = fuel; oxidizer = oxidizer }
+abbrev pub keeping : ℕ → ℕ → Quantities
+keeping fuel oxidizer = record { fuel = fuel; oxidizer = oxidizer }

@@ -9,7 +9,7 @@ use Rattle.cycle.specs.Records.{minor}
 use Rattle.cycle.specs.declared.values.Temperatures.{Temperatures}
 use Rattle.cycle.specs.declared.values.Quantities.{Quantities}
 use Rattle.promises.specs.NightRecords.{sampleWith, quietSample, quietTemperatures, quietQuantities}
-use Rattle.promises.specs.NightRecords.{minorWith, recordWith, recordOfSample, atMajors, holding}
+use Rattle.promises.specs.NightRecords.{minorWith, recordWith, recordOfSample, atMajors, keeping}
 use Rattle.promises.specs.NightHolds.{Exchange, Night, stepping, feeding, reportWith, reportOfString, since, cycles}
 
 -- "First record 52 4D 00 01 00, then four times (twelve 00, then 0F), sum 00 DC. Report: 52 52 00 00 00 00 01, then 27 bytes 00."
@@ -98,10 +98,10 @@ wireWraps =
 -- "Quantities 500 and 516: balanced. 500 and 517: not. Equal: fuel is the lesser." Modules 0, 1 and 2 in this order: at 25 the lesser
 -- of two unequal quantities is the fuel, at 50 the oxidizer
 abbrev pub lessFuel : List Quantities
-lessFuel = holding 500 516 ∷ holding 500 517 ∷ holding 500 500 ∷ []
+lessFuel = keeping 500 516 ∷ keeping 500 517 ∷ keeping 500 500 ∷ []
 
 abbrev pub lessOxidizer : List Quantities
-lessOxidizer = holding 516 500 ∷ holding 517 500 ∷ holding 500 500 ∷ []
+lessOxidizer = keeping 516 500 ∷ keeping 517 500 ∷ keeping 500 500 ∷ []
 
 -- nothing before 25; then bit 1 of the balance byte, module 1 being out of balance; from 50 on also bits 4 and 5, the oxidizer being the
 -- lesser in modules 0 and 1 and not in module 2; the lesser is 500 everywhere

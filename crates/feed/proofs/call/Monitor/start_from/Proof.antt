@@ -6,7 +6,7 @@ use Rattle.feed.specs.Call.{holding, startedOver}
 use Rattle.feed.specs.declared.call.Outcome.{Outcome}
 use Rattle.cycle.specs.Size.{stringCount}
 use Rattle.cycle.specs.Hall.{freshHall}
-use Rattle.cycle.specs.declared.answer.Answer.the-variants.{MapRefused}
+use Rattle.cycle.specs.declared.answer.Answer.the-variants.{NothingSettled}
 use Rattle.cycle.specs.declared.map.Masks.{Masks}
 use Rattle.cycle.specs.declared.hall.Hall.{Hall}
 use borrow.Author.Tests.{eq-eqb, ne-eqb}
@@ -15,9 +15,9 @@ use borrow.Author.Needs.{needs}
 use Rattle.feed.proofs.call.Monitor.start_from.Statement.{statement}
 use Rattle.feed.proofs.call.Monitor.start_from.Tie as tie
 
--- short masks are refused
-abbrev refusedOf : Hall → Outcome
-refusedOf h = record { answer = MapRefused; used = 0; monitor = holding h [] }
+-- bytes of another number are no map
+abbrev noneOf : Hall → Outcome
+noneOf h = record { answer = NothingSettled; used = 0; monitor = holding h [] }
 
 masks-of-requires : tie.Need-masks-of-requires
 masks-of-requires c κs = search needs
@@ -39,7 +39,7 @@ returns-2 : tie.Need-returns-2
 unfolding startedFrom
 returns-2 c =
     let at-if1 = c .before .before in
-    rw (ne-eqb _ _ (at-if1 .if1 .left)) (ap refusedOf
+    rw (ne-eqb _ _ (at-if1 .if1 .left)) (ap noneOf
     (c .fresh .ensures ∙ ap (λ (x : Masks). freshHall (replicate stringCount x)) (c .before .none .ensures)))
 
 pub start-from-spec : {M : Type 1} → statement M

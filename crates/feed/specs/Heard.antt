@@ -1,0 +1,55 @@
+-- What a taken record says of one jet and of one module, read off its bytes: 01, "The feed", place by place. The numbers are written as
+-- document 01 writes or adds them up. Lists are the newest first. Assumes nothing.
+use mathlib.Core.Bool.{Bool, true, false, cond}
+use mathlib.Core.List.{List, [], _∷_}
+use Prim.Native.Nat.{ℕ, _+_, _*_}
+use lib.Dec.{eqb}
+use lib.ListN.{length, getD}
+use Rattle.bits.specs.Bit.{bit}
+use Rattle.cycle.specs.Jets.{JetRecord}
+use Rattle.cycle.specs.Banks.{noBank, weighed}
+use Rattle.cycle.specs.declared.banks.Bank.{Bank}
+use Rattle.feed.specs.Bytes.{two, four}
+
+-- a record answered 0: the cycle number that it led to, and its bytes
+pub record Heard : Type 0 where
+  pub n : ℕ
+  pub bytes : List ℕ
+
+-- the cycle number reached, "0 when fresh"
+abbrev pub reachedBy : List Heard → ℕ
+reachedBy [] = 0
+reachedBy (t ∷ ts) = t .n
+
+-- a number of a major record; a minor one has no temperatures and requests: they stand as 0, and only major cycles look at them
+abbrev pub inMajor : List ℕ → ℕ → ℕ
+inMajor r x = cond (eqb (length r) 615) x 0
+
+-- Jet j on manifold i of string s. "path byte (bit s ..); for each string 13 bytes: commanded C (4), pressure P (4), driver D (4),
+-- valve-open V (1; bit i for manifold i, ..)"; "512 bytes of injector temperatures (string by string, jet by jet, fuel word then oxidizer
+-- word); for each string an inhibit word and a re-enable word (4 bytes each)".
+abbrev pub jetHeard : ℕ → ℕ → ℕ → Heard → JetRecord
+jetHeard s i j t = record {
+  n = t .n;
+  path = bit s (getD (t .bytes) 4 0);
+  commanded = bit j (four (t .bytes) (5 + 13 * s));
+  pressure = bit j (four (t .bytes) (9 + 13 * s));
+  driver = bit j (four (t .bytes) (13 + 13 * s));
+  valve = bit i (getD (t .bytes) (17 + 13 * s) 0);
+  inhibit = bit j (inMajor (t .bytes) (four (t .bytes) (569 + 8 * s)));
+  reenable = bit j (inMajor (t .bytes) (four (t .bytes) (573 + 8 * s)));
+  fuel = inMajor (t .bytes) (two (t .bytes) (57 + 128 * s + 4 * j));
+  oxidizer = inMajor (t .bytes) (two (t .bytes) (59 + 128 * s + 4 * j));
+}
+
+-- what the records taken say of the jet
+abbrev pub jetHistory : ℕ → ℕ → ℕ → List Heard → List JetRecord
+jetHistory s i j [] = []
+jetHistory s i j (t ∷ ts) = jetHeard s i j t ∷ jetHistory s i j ts
+
+-- module m: "for each module fuel then oxidizer, 2 bytes each", "held until the next taken major record; all 0 when fresh"
+abbrev pub bankHeard : ℕ → List Heard → Bank
+bankHeard m [] = noBank
+bankHeard m (t ∷ ts) =
+    cond (eqb (length (t .bytes)) 615)
+    (weighed (record { fuel = two (t .bytes) (601 + 4 * m); oxidizer = two (t .bytes) (603 + 4 * m) })) (bankHeard m ts)
