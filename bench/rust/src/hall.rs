@@ -1,0 +1,247 @@
+//! Four strings of 32 jets on packed words, jet j being bit j, and the nitrogen banks.
+
+use crate::record::*;
+
+const STRINGS: usize = 4;
+const MANIFOLDS: usize = 4;
+const MODULES: usize = 3;
+const JETS: usize = 32;
+const MAJOR_EVERY: u32 = 25;
+const LEAK_BELOW: u16 = 64;
+const MOST_APART: u16 = 16;
+const REPORT_LENGTH: usize = 34;
+
+const TAKEN: u8 = 0;
+const STALE: u8 = 1;
+const REPEAT: u8 = 2;
+const COUNT_ENDED: u8 = 3;
+const WRONG_KIND: u8 = 4;
+
+pub struct Hall {
+    n: u32,
+    strings: [JetString; STRINGS],
+    balance: u8,
+    lesser: [u16; MODULES],
+}
+
+#[derive(Clone, Copy)]
+struct Standing {
+    fail: u32,
+    valves: u8,
+    saved: [u32; MANIFOLDS],
+}
+
+struct JetString {
+    masks: [u32; MANIFOLDS],
+    mapped: u32,
+    standing: Standing,
+    good: Standing,
+    /// The two newest off slots: no later rule reads the third.
+    off: [u32; 2],
+    on: u32,
+    recheck: u32,
+    inhibit: u32,
+    reenable: u32,
+    close: u8,
+    lost: bool,
+}
+
+/// What a taken record leads to.
+struct Next {
+    n: u32,
+    gap: bool,
+    missed_major: bool,
+}
+
+impl Hall {
+    /// A fresh hall over the map, unless two masks of a string share a jet.
+    pub fn over(masks: &[u8]) -> Option<Hall> {
+        let strings =
+            std::array::from_fn(|s| JetString::over(std::array::from_fn(|i| word(masks, 16 * s + 4 * i))));
+        let overlap = strings.iter().any(|string: &JetString| {
+            string.masks.iter().map(|mask| mask.count_ones()).sum::<u32>() != string.mapped.count_ones()
+        });
+        (!overlap).then_some(Hall { n: 0, strings, balance: 0, lesser: [0; MODULES] })
+    }
+
+    pub fn minor(&mut self, record: &MinorRecord) -> u8 {
+        match self.judge(record, false) {
+            Ok(next) => self.step(record, next),
+            Err(answer) => return answer,
+        }
+        TAKEN
+    }
+
+    pub fn major(&mut self, record: &MajorRecord) -> u8 {
+        let minor: &MinorRecord = record.first_chunk().expect("a major record is longer");
+        match self.judge(minor, true) {
+            Ok(next) => self.step(minor, next),
+            Err(answer) => return answer,
+        }
+        for (s, string) in self.strings.iter_mut().enumerate() {
+            string.major(record, s);
+        }
+        self.weigh(record);
+        TAKEN
+    }
+
+    /// The number a record leads to, or the answer that refuses it.
+    fn judge(&self, record: &MinorRecord, major: bool) -> Result<Next, u8> {
+        let (wire, _) = head(record);
+        let d = match wire.wrapping_sub(self.n as u16) {
+            0 => return Err(REPEAT),
+            32_768.. => return Err(STALE),
+            d => u32::from(d),
+        };
+        let Some(n) = self.n.checked_add(d) else { return Err(COUNT_ENDED) };
+        if n.is_multiple_of(MAJOR_EVERY) != major {
+            return Err(WRONG_KIND);
+        }
+        let missed_major = d > 1 && self.n / MAJOR_EVERY < (n - 1) / MAJOR_EVERY;
+        Ok(Next { n, gap: d > 1, missed_major })
+    }
+
+    fn step(&mut self, record: &MinorRecord, next: Next) {
+        let (_, path) = head(record);
+        self.n = next.n;
+        for (s, string) in self.strings.iter_mut().enumerate() {
+            let at = SAMPLES + SAMPLE_LENGTH * s;
+            string.minor(record, at, (path >> s) & 1 == 1, &next);
+        }
+    }
+
+    fn weigh(&mut self, record: &MajorRecord) {
+        self.balance = 0;
+        for module in 0..MODULES {
+            let fuel = half_word(record, QUANTITIES + 4 * module);
+            let oxidizer = half_word(record, QUANTITIES + 4 * module + 2);
+            self.balance |= u8::from(fuel.abs_diff(oxidizer) > MOST_APART) << module;
+            self.balance |= u8::from(oxidizer < fuel) << (4 + module);
+            self.lesser[module] = fuel.min(oxidizer);
+        }
+    }
+
+    #[inline]
+    pub fn report(&self, answer: u8) -> [u8; REPORT_LENGTH] {
+        let mut report = [0; REPORT_LENGTH];
+        report[..3].copy_from_slice(&[0x52, 0x52, answer]);
+        report[3..7].copy_from_slice(&self.n.to_be_bytes());
+        for (string, part) in self.strings.iter().zip(report[7..27].chunks_exact_mut(5)) {
+            part[..4].copy_from_slice(&string.standing.fail.to_be_bytes());
+            part[4] = string.close;
+        }
+        report[27] = self.balance;
+        for (lesser, part) in self.lesser.iter().zip(report[28..].chunks_exact_mut(2)) {
+            part.copy_from_slice(&lesser.to_be_bytes());
+        }
+        report
+    }
+}
+
+impl JetString {
+    fn over(masks: [u32; MANIFOLDS]) -> JetString {
+        let standing = Standing { fail: 0, valves: 0x0F, saved: [0; MANIFOLDS] };
+        JetString {
+            masks,
+            mapped: masks.iter().fold(0, |mapped, mask| mapped | mask),
+            standing,
+            good: standing,
+            off: [0; 2],
+            on: 0,
+            recheck: 0,
+            inhibit: 0,
+            reenable: 0,
+            close: 0,
+            lost: false,
+        }
+    }
+
+    /// Steps 1 to 4.
+    fn minor(&mut self, record: &MinorRecord, at: usize, path: bool, next: &Next) {
+        if path {
+            self.lost = true;
+            return;
+        }
+        if self.lost {
+            self.lost = false;
+            self.standing = self.good;
+            self.off = [0; 2];
+            self.on = 0;
+            self.recheck = 0;
+        }
+        if next.gap {
+            self.off = [0; 2];
+        }
+        if next.missed_major {
+            self.on = 0;
+            self.recheck = 0;
+        }
+        let commanded = self.mapped & word(record, at);
+        let pressure = word(record, at + 4);
+        let valves = record[at + 12];
+        let [newer, older] = self.off;
+        let newest = commanded & !pressure;
+        self.off = [newest, newer];
+        self.standing.fail |= newest & newer & older;
+        self.standing.fail &= !self.reenable;
+        if self.standing.valves != valves {
+            self.move_valves(valves);
+        }
+        self.standing.fail |= self.inhibit;
+    }
+
+    /// Step 4 where a valve has moved.
+    #[cold]
+    fn move_valves(&mut self, valves: u8) {
+        let standing = &mut self.standing;
+        for (i, (&mask, saved)) in self.masks.iter().zip(&mut standing.saved).enumerate() {
+            match (standing.valves >> i & 1, valves >> i & 1) {
+                (1, 0) => {
+                    *saved = mask & !standing.fail;
+                    standing.fail |= mask;
+                    self.reenable &= !mask;
+                }
+                (0, 1) => standing.fail &= !*saved,
+                _ => {}
+            }
+        }
+        standing.valves = valves;
+    }
+
+    /// Steps 5 to 8.
+    fn major(&mut self, record: &MajorRecord, s: usize) {
+        if self.lost {
+            return;
+        }
+        let inhibit = self.mapped & word(record, REQUESTS + REQUESTS_LENGTH * s);
+        let reenable = self.mapped & word(record, REQUESTS + REQUESTS_LENGTH * s + 4);
+        let (inhibit, reenable) = (inhibit & !reenable, reenable & !inhibit);
+        self.inhibit = (self.inhibit | inhibit) & !reenable;
+        self.reenable = (self.reenable | reenable) & !inhibit;
+        let fail = (self.standing.fail | inhibit) & !reenable;
+
+        let sample = SAMPLES + SAMPLE_LENGTH * s;
+        let (commanded, driver) = (word(record, sample), word(record, sample + 8));
+        let bad = self.mapped & !commanded & (driver | leaking(record, s));
+        let close = self.recheck & bad & !self.reenable;
+        for (i, mask) in self.masks.iter().enumerate() {
+            self.close |= u8::from(mask & close != 0) << i;
+        }
+        self.recheck = bad & self.on & !self.reenable;
+        self.on = bad;
+        self.standing.fail = fail | self.recheck;
+        self.good = self.standing;
+    }
+}
+
+/// The jets of which a temperature word shows a leak.
+fn leaking(record: &MajorRecord, s: usize) -> u32 {
+    let from = TEMPERATURES + TEMPERATURES_LENGTH * s;
+    let mut leaking = 0;
+    for jet in 0..JETS {
+        let fuel = half_word(record, from + 4 * jet);
+        let oxidizer = half_word(record, from + 4 * jet + 2);
+        leaking |= u32::from(fuel < LEAK_BELOW || oxidizer < LEAK_BELOW) << jet;
+    }
+    leaking
+}
