@@ -48,3 +48,13 @@ each-same f g d l zero e = refl
 each-same f g d l (suc n) e =
     let h : each n f d l ≡ each n g d l = each-same f g d l n (λ i x b. e i x (omega arith)) in
     rw h (ap (λ x. set (each n g d l) n x) (e n (getD (each n g d l) n d) (omega arith)))
+
+-- two rules that agree at what stands at each place below n do the same
+pub each-same-at : {A : Type 0} (f g : ℕ → A → A) (d : A) (l : List A) (n : ℕ) → ((i : ℕ) → i < n → f i (getD l i d) ≡ g i (getD l i d))
+    → each n f d l ≡ each n g d l
+unfolding each
+each-same-at f g d l zero e = refl
+each-same-at f g d l (suc n) e =
+    let h : each n f d l ≡ each n g d l = each-same-at f g d l n (λ i b. e i (omega arith)) in
+    let k : getD (each n g d l) n d ≡ getD l n d = each-above g d l n n (omega arith) in
+    rw (h, k) (ap (λ x. set (each n g d l) n x) (e n (omega arith)))

@@ -1,6 +1,7 @@
 pub mod Numbers
 pub mod Judgements
 pub mod Each
+pub mod Quiet
 pub mod Maps
 pub mod Leaks
 pub mod Balance

@@ -3,6 +3,7 @@ ghost use mathlib.Core.Path.{_≡_};
 ghost use mathlib.Core.Bool.{true, false};
 ghost use Rattle.cycle.specs.Size.{stringCount};
 ghost use Rattle.cycle.specs.Hall.{freshHall, started, minorStrings, majorStrings, minorTaken, majorTaken, stepped};
+ghost use Rattle.cycle.specs.Quiet.{someBusy, quietStrings};
 ghost use Rattle.cycle.specs.Records.{Record};
 use crate::answer::Answer;
 use crate::banks::Bank;
@@ -33,8 +34,43 @@ pub struct Stepped {
     pub hall: Hall,
 }
 
-// Steps 1 to 4 of every string.
-pub fn minor_strings(
+// Is some string busy?
+fn some_busy(strings: [StringState; STRINGS], r: Minor) -> bool
+    ensures { λ x. ⌜ x ≡ someBusy stringCount r strings ⌝ }
+{
+    let mut found = false;
+    let mut s: usize = 0;
+    while s < STRINGS {
+        let string = strings[s];
+        let sample = r.samples[s];
+        found = found | string.busy(sample.valves as u32);
+        s += 1;
+    }
+    found
+}
+
+// Every string where none is busy, no path bit is set and no cycle was missed.
+fn quiet_strings(
+    strings: [StringState; STRINGS],
+    masks: [Masks; STRINGS],
+    r: Minor,
+) -> [StringState; STRINGS]
+    ensures { λ x. ⌜ x ≡ quietStrings stringCount masks r strings ⌝ }
+{
+    let mut next = strings;
+    let mut s: usize = 0;
+    while s < STRINGS {
+        let string = next[s];
+        let m = masks[s];
+        let sample = r.samples[s];
+        next[s] = string.quiet_cycle(m, sample);
+        s += 1;
+    }
+    next
+}
+
+// Every string by all its steps.
+fn all_steps(
     strings: [StringState; STRINGS],
     masks: [Masks; STRINGS],
     r: Minor,
@@ -54,6 +90,23 @@ pub fn minor_strings(
         s += 1;
     }
     next
+}
+
+// Steps 1 to 4 of every string. Most records find nothing but words to change: they are told apart once, and not step by step.
+pub fn minor_strings(
+    strings: [StringState; STRINGS],
+    masks: [Masks; STRINGS],
+    r: Minor,
+    gap: bool,
+    missed: bool,
+) -> [StringState; STRINGS]
+    ensures { λ x. ⌜ x ≡ minorStrings stringCount masks r gap missed strings ⌝ }
+{
+    if gap | missed | (r.path != 0) | some_busy(strings, r) {
+        all_steps(strings, masks, r, gap, missed)
+    } else {
+        quiet_strings(strings, masks, r)
+    }
 }
 
 // Steps 5 to 8 of every string.

@@ -2,6 +2,7 @@
 ghost use mathlib.Core.Path.{_≡_};
 ghost use mathlib.Core.Bool.{_&&_};
 ghost use Rattle.cycle.specs.Size.{manifoldCount};
+ghost use Rattle.cycle.specs.Quiet.{busy, quietCycle};
 ghost use Rattle.cycle.specs.Words.{fresh, pathLost, recovered, gapped, offFailure, manifold, manifolds, requested, asksClose, closeBits, rechecked, onFailure, kept, badJets, minorCycle, majorCycle};
 use crate::leak::leak_word;
 use crate::map::Masks;
@@ -251,6 +252,25 @@ impl StringState {
         self.standing = next;
         self.over = still;
         self
+    }
+
+    // Is a path fault remembered, or has a valve moved?
+    pub(crate) fn busy(self, valves: u32) -> bool
+        ensures { λ r. ⌜ r ≡ busy valves self ⌝ }
+    {
+        self.lost | (self.standing.valves != valves)
+    }
+
+    // Steps 1 to 4 of a string that is not busy, where the path bit is clear and no cycle was missed: only words change, and no manifold.
+    pub(crate) fn quiet_cycle(self, masks: Masks, sample: Sample) -> StringState
+        ensures { λ r. ⌜ r ≡ quietCycle manifoldCount (masks .words) sample self ⌝ }
+    {
+        let mapped = masks.mapped();
+        let mut next = self.off_failure(mapped & sample.commanded, sample.pressure);
+        let mut standing = next.standing;
+        standing.fail = standing.fail | next.over.inhibit;
+        next.standing = standing;
+        next
     }
 
     // Step 5.
