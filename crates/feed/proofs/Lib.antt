@@ -16,6 +16,7 @@ pub mod Written
 pub mod ReportLengths
 pub mod ReportWritten
 pub mod NumbersInBytes
+pub mod TurnedBytes
 pub mod Parts
 pub mod ReportPlaces
 pub mod BalanceBits

@@ -16,3 +16,10 @@ inTwo w = w / 256 % 256 ∷ w % 256 ∷ []
 
 abbrev pub inFour : ℕ → List ℕ
 inFour w = w / 16777216 % 256 ∷ w / 65536 % 256 ∷ w / 256 % 256 ∷ w % 256 ∷ []
+
+-- the same bytes, the low one first
+abbrev pub lowTwo : ℕ → List ℕ
+lowTwo w = w % 256 ∷ w / 256 % 256 ∷ []
+
+abbrev pub lowFour : ℕ → List ℕ
+lowFour w = w % 256 ∷ w / 256 % 256 ∷ w / 65536 % 256 ∷ w / 16777216 % 256 ∷ []

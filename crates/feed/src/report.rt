@@ -7,6 +7,8 @@ ghost use Rattle.cycle.specs.Size.{stringCount, moduleCount};
 ghost use Rattle.feed.specs.Bytes.{inTwo};
 ghost use Rattle.feed.specs.Size.{reportLength, stringsFrom, stringPart, balanceAt};
 ghost use Rattle.feed.specs.Report.{headOf, stringBytes, stringsBytes, balanceOf, banksBytes, reportOf};
+use crate::bytes::turned16;
+use crate::bytes::turned32;
 use crate::size::BALANCE_AT;
 use crate::size::LESSER_FROM;
 use crate::size::LESSER_LENGTH;
@@ -28,10 +30,11 @@ fn put_head(s: &mut [u8], answer: u8, n: u32)
     s[0] = MARK;
     s[1] = MARK;
     s[2] = answer;
-    s[3] = (n / 16777216 % 256) as u8;
-    s[4] = (n / 65536 % 256) as u8;
-    s[5] = (n / 256 % 256) as u8;
-    s[6] = (n % 256) as u8;
+    let w = turned32(n);
+    s[3] = (w % 256) as u8;
+    s[4] = (w / 256 % 256) as u8;
+    s[5] = (w / 65536 % 256) as u8;
+    s[6] = (w / 16777216 % 256) as u8;
 }
 
 // A string's five bytes, into their own part of the outbox.
@@ -39,10 +42,11 @@ fn put_string(s: &mut [u8], fail: u32, close: u32)
     requires { ⌜ length (now s) ≡ stringPart ⌝ }
     ensures { λ r. ⌜ now (s .exit) ≡ stringBytes fail close ⌝ }
 {
-    s[0] = (fail / 16777216 % 256) as u8;
-    s[1] = (fail / 65536 % 256) as u8;
-    s[2] = (fail / 256 % 256) as u8;
-    s[3] = (fail % 256) as u8;
+    let w = turned32(fail);
+    s[0] = (w % 256) as u8;
+    s[1] = (w / 256 % 256) as u8;
+    s[2] = (w / 65536 % 256) as u8;
+    s[3] = (w / 16777216 % 256) as u8;
     s[4] = (close % 256) as u8;
 }
 
@@ -51,8 +55,9 @@ fn put_lesser(s: &mut [u8], lesser: u16)
     requires { ⌜ length (now s) ≡ 2 ⌝ }
     ensures { λ r. ⌜ now (s .exit) ≡ inTwo lesser ⌝ }
 {
-    s[0] = (lesser / 256 % 256) as u8;
-    s[1] = (lesser % 256) as u8;
+    let w = turned16(lesser);
+    s[0] = (w % 256) as u8;
+    s[1] = (w / 256 % 256) as u8;
 }
 
 // The balance byte's bits.

@@ -1,11 +1,18 @@
 -- `feed::report::put_string` meets its contract. Assumes nothing.
+use mathlib.Core.Path.{ap, _∙_}
+use mathlib.Core.List.{List, [], _∷_, _++_}
+use Prim.Native.Nat.{ℕ, _%_}
 use borrow.Author.Needs.{needs}
 use lib.ListN.{length-set}
 use native.Mathlib.Omega.{arith}
 use Rattle.feed.proofs.Written.{sets-all}
+use Rattle.feed.specs.Bytes.{lowFour}
 use Rattle.feed.specs.Report.{stringBytes}
 use Rattle.feed.proofs.report.put_string.Statement.{statement}
 use Rattle.feed.proofs.report.put_string.Tie as tie
+
+turned32-requires : tie.Need-turned32-requires
+turned32-requires c κs = search needs
 
 cast-s : tie.Need-cast-s
 cast-s c = search needs
@@ -42,12 +49,16 @@ same-length c = search needs
 
 returns : tie.Need-returns
 unfolding stringBytes
-returns c = sets-all (c .args .s .now) (stringBytes (c .args .fail) (c .args .close)) (search needs)
+returns c =
+    let a = c .before .before .args in
+    let last : List ℕ = a .close % 256 ∷ [] in
+    sets-all (a .s .now) (lowFour (c .turned32 .result) ++ last) (search needs) ∙ ap (λ (l : List ℕ). l ++ last) (c .turned32 .ensures)
 
 pub put-string-spec : {M : Type 1} → statement M
 put-string-spec =
     tie.close
     (tie.spec
+    turned32-requires
     cast-s
     slice-write-s
     cast-s-2
