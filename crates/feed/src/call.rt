@@ -1,16 +1,17 @@
 // The monitor and its call; and the run that hands a piece on until it is used up.
 ghost use mathlib.Core.Path.{_≡_};
-ghost use mathlib.Core.Bool.{true};
+ghost use mathlib.Core.Bool.{true, false};
 ghost use Prim.Native.Nat.{_≤_, _/_};
 ghost use lib.ListN.{length, take, drop};
 ghost use Rattle.cycle.specs.Hall.{stepped};
-ghost use Rattle.feed.specs.Size.{minorLength, majorLength, storeLength, mostHeld, reportLength};
+ghost use Rattle.feed.specs.Size.{minorLength, storeLength, mostHeld, reportLength};
 ghost use Rattle.feed.specs.Format.{lengthOf};
 ghost use Rattle.feed.specs.Reader.{store};
-ghost use Rattle.feed.specs.Values.{minorOf, majorOf, valuesOf, majorOfKinds};
+ghost use Rattle.feed.specs.Values.{valuesOf, majorOfKinds};
 ghost use Rattle.feed.specs.Call.{holding, called, call, startedOver, runs, Ran-by};
 ghost use Rattle.feed.specs.Masks.{startedFrom};
 ghost use Rattle.feed.specs.Turn.{foundIn, leftCount, leftBytes, Turns};
+use crate::bytes::two_at;
 use crate::format::Kind;
 use crate::format::length_of;
 use crate::masks::masks_of;
@@ -33,8 +34,6 @@ use cycle::map::Masks;
 use cycle::number::Verdict;
 use cycle::number::judged;
 use cycle::size::STRINGS;
-use cycle::values::Major;
-use cycle::values::Minor;
 
 // The hall, and the tail of the feed: only the first `count` bytes of `held` count.
 pub struct Monitor {
@@ -67,28 +66,12 @@ pub struct Turned {
     pub used: usize,
 }
 
-// The first 57 bytes of the record found: in the store, or in the piece from `at` on.
-fn minor_in(b: &[u8], piece: &[u8], held: bool, at: usize) -> Minor
-    requires { ⌜ minorLength ≤ length (foundIn held at (now b) (now piece)) ⌝ }
-    ensures { λ r. ⌜ r ≡ minorOf (foundIn held at (now (b .entry)) (now (piece .entry))) ⌝ }
+// The bytes from the record found on: in the store, or in the piece from `at` on.
+fn found_bytes<'a>(b: &'a [u8], piece: &'a [u8], held: bool, at: usize) -> &'a [u8]
+    requires { ⌜ (held ≡ false → at ≤ length (now piece)) ⌝ }
+    ensures { λ r. ⌜ now r ≡ foundIn held at (now (b .entry)) (now (piece .entry)) ⌝ }
 {
-    if held {
-        minor_of(b)
-    } else {
-        minor_of(&piece[at..])
-    }
-}
-
-// All of a major record found.
-fn major_in(b: &[u8], piece: &[u8], held: bool, at: usize) -> Major
-    requires { ⌜ majorLength ≤ length (foundIn held at (now b) (now piece)) ⌝ }
-    ensures { λ r. ⌜ r ≡ majorOf (foundIn held at (now (b .entry)) (now (piece .entry))) ⌝ }
-{
-    if held {
-        major_of(b)
-    } else {
-        major_of(&piece[at..])
-    }
+    if held { b } else { &piece[at..] }
 }
 
 // Is the record of the major kind?
@@ -103,18 +86,26 @@ pub fn is_major(k: Kind) -> bool
 }
 
 // The record found steps the hall.
-fn step_found(hall: Hall, kind: Kind, b: &[u8], piece: &[u8], held: bool, at: usize) -> Stepped
+fn step_found<'a>(
+    hall: Hall,
+    kind: Kind,
+    b: &'a [u8],
+    piece: &'a [u8],
+    held: bool,
+    at: usize,
+) -> Stepped
     requires { ⌜ (minorLength ≤ lengthOf kind) × (lengthOf kind ≤ length (foundIn held at (now b) (now piece))) ⌝ }
     ensures { λ r. ⌜ r ≡ stepped (valuesOf kind (foundIn held at (now (b .entry)) (now (piece .entry)))) hall ⌝ }
 {
-    let r = minor_in(b, piece, held, at);
+    let s = found_bytes(b, piece, held, at);
     let major = is_major(kind);
-    let v = judged(hall.n, r.wire, major);
+    let v = judged(hall.n, two_at(s, 2), major);
     match v {
         Verdict::Takes(next) => {
+            let r = minor_of(s);
             let h = hall.minor_taken(r, next);
             if major {
-                let q = major_in(b, piece, held, at);
+                let q = major_of(s, r);
                 Stepped {
                     answer: Answer::Taken,
                     hall: h.major_taken(q),

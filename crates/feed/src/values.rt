@@ -154,12 +154,11 @@ fn quantities_of(s: &[u8]) -> [Quantities; MODULES]
     all
 }
 
-// What a major record says.
-pub(crate) fn major_of(s: &[u8]) -> Major
-    requires { ⌜ majorLength ≤ length (now s) ⌝ }
+// What a major record says, given what its first 57 bytes do.
+pub(crate) fn major_of(s: &[u8], minor: Minor) -> Major
+    requires { ⌜ (majorLength ≤ length (now s)) × (minor ≡ minorOf (now s)) ⌝ }
     ensures { λ r. ⌜ r ≡ majorOf (now (s .entry)) ⌝ }
 {
-    let minor = minor_of(s);
     let temperatures = temperatures_of(s);
     let requests = requests_of(s);
     let quantities = quantities_of(s);

@@ -4,9 +4,6 @@ use Rattle.feed.specs.Values.{majorOf}
 use Rattle.feed.proofs.values.major_of.Statement.{statement}
 use Rattle.feed.proofs.values.major_of.Tie as tie
 
-minor-of-requires : tie.Need-minor-of-requires
-minor-of-requires c κs = search needs
-
 temperatures-of-requires : tie.Need-temperatures-of-requires
 temperatures-of-requires c κs = search needs
 
@@ -24,7 +21,6 @@ pub major-of-spec : {M : Type 1} → statement M
 major-of-spec =
     tie.close
     (tie.spec
-    minor-of-requires
     temperatures-of-requires
     requests-of-requires
     quantities-of-requires
