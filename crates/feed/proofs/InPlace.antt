@@ -24,7 +24,7 @@ use Rattle.feed.proofs.Settling.{settle-goes, settle-waits, settle-sett
 use Rattle.feed.proofs.Reading.{reads-found, reads-more, reads-same}
 
 -- one byte tells, or two
-drops-one : (b : ℕ) (p : List ℕ) → eqb b markByte ≡ false → look (b ∷ p) ≡ Drops
+pub drops-one : (b : ℕ) (p : List ℕ) → eqb b markByte ≡ false → look (b ∷ p) ≡ Drops
 unfolding look
 drops-one b p t = simp (ne-eqb (length (b ∷ p)) 0 (λ q. omega arith), t)
 

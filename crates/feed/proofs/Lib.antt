@@ -10,6 +10,7 @@ pub mod Reading
 pub mod Calms
 pub mod InPlace
 pub mod Turns
+pub mod Skipping
 pub mod Copies
 pub mod Finding
 pub mod Written

@@ -3,7 +3,7 @@
 use mathlib.Core.Path.{_≡_}
 use mathlib.Core.Bool.{Bool, true, false, not, cond, _&&_}
 use mathlib.Core.List.{List, [], _∷_}
-use Prim.Native.Nat.{ℕ, suc, _+_, _-_, _≤_, min}
+use Prim.Native.Nat.{ℕ, suc, _+_, _-_, _≤_, _<_, min}
 use lib.Dec.{eqb, ltb}
 use lib.ListN.{length, getD, take, drop}
 use Rattle.feed.specs.Size.{markByte}
@@ -23,6 +23,13 @@ abbrev pub calmOf : List ℕ → ℕ → ℕ
 calmOf l n =
     cond (ltb (length l) 2) 0
     (cond (eqb (getD l 0 0) markByte) (min n (lengthOf (kindOf (getD l 1 0)) - length l - 1)) 0)
+
+-- with n bytes held, the next byte is taken at r: at `from`, or, where nothing is held, behind bytes that cannot begin a mark
+pub record Skips (n : ℕ) (piece : List ℕ) (from r : ℕ) : Type 0 where
+  pub on : from ≤ r
+  pub within : r < length piece
+  pub stays : 0 < n → r ≡ from
+  pub same : reads [] (drop r piece) ≡ reads [] (drop from piece)
 
 -- what is found by way of the store, and the store then
 pub record Filled : Type 0 where

@@ -2,11 +2,11 @@
 ghost use mathlib.Core.Path.{_≡_};
 ghost use mathlib.Core.Bool.{true};
 ghost use mathlib.Core.List.{_++_};
-ghost use Prim.Native.Nat.{_-_, _≤_};
+ghost use Prim.Native.Nat.{_-_, _≤_, _<_};
 ghost use lib.ListN.{length, take, drop, replicate};
 ghost use Rattle.feed.specs.Size.{storeLength, mostHeld};
 ghost use Rattle.feed.specs.Reader.{store, heldCount};
-ghost use Rattle.feed.specs.Inside.{frontOf, calmOf, filled, Finds};
+ghost use Rattle.feed.specs.Inside.{frontOf, calmOf, Skips, filled, Finds};
 use crate::format::Kind;
 use crate::format::Look;
 use crate::format::kind_of;
@@ -135,6 +135,25 @@ pub fn held_count(count: usize) -> usize
     if MOST_HELD < count { 0 } else { count }
 }
 
+// Where the next byte is taken: where nothing is held, behind those that cannot begin a mark, but at the last byte at the latest.
+fn skipped(piece: &[u8], from: usize, held: usize) -> usize
+    requires { ⌜ from < length (now piece) ⌝ }
+    ensures { λ r. ⌜ Skips held (now (piece .entry)) from r ⌝ }
+{
+    if 0 < held {
+        return from;
+    }
+    let last = piece.len() - 1;
+    let mut at = from;
+    while at < last {
+        if piece[at] == MARK {
+            return at;
+        }
+        at += 1;
+    }
+    at
+}
+
 // By way of the store: settles what it holds, then takes bytes of the piece from `from` on.
 fn fill(b: &mut [u8], count: usize, piece: &[u8], from: usize) -> Found
     requires { ⌜ length (now b) ≡ storeLength ⌝ }
@@ -172,9 +191,10 @@ fn fill(b: &mut [u8], count: usize, piece: &[u8], from: usize) -> Found
                 used: used,
             };
         }
-        b[n] = piece[used];
+        let next = skipped(piece, used, n);
+        b[n] = piece[next];
         n += 1;
-        used += 1;
+        used = next + 1;
         let k = calm(&b[..n], piece.len() - used);
         copy(&mut b[n..n + k], &piece[used..used + k]);
         n += k;

@@ -15,6 +15,7 @@ use Rattle.feed.proofs.Fronts.{settle-short}
 use Rattle.feed.proofs.Stores.{length-store}
 use Rattle.feed.proofs.Turns.{Turn, turn-long, turn-fits, turn-count, turn-at, turn-stay, turn-gone}
 use Rattle.feed.proofs.Turns.{turn-found, turn-end, turn-room, turn-more}
+use Rattle.feed.proofs.Skipping.{turn-skip}
 use Rattle.feed.proofs.Copies.{calm-room, turn-copy, part-long}
 use Rattle.feed.proofs.reader.fill.Statement.{statement}
 use Rattle.feed.proofs.reader.fill.Tie as tie
@@ -114,8 +115,11 @@ returns-2 c =
     let k = c .before .enum-told .given .1 in
     turn-end _ _ _ _ _ (d .before .before .loop .inv) _ (d .find-front .ensures) _ _ (j .0) (j .1) k (c .if2 .taken)
 
+skipped-requires : tie.Need-skipped-requires Inv-loop μ-loop
+skipped-requires c κs = let w = c .before .before .before .before .before .before .loop .inv .within in search needs
+
 shared-slice-read-b : tie.Need-shared-slice-read-b Inv-loop μ-loop
-shared-slice-read-b c = let w = c .before .before .before .before .before .before .before .loop .inv .within in search needs
+shared-slice-read-b c = c .before .skipped .ensures .within
 
 -- a place is free
 room : (c : tie.Else2 Inv-loop μ-loop) → c .before .before .before .if1 .n < storeLength
@@ -126,37 +130,43 @@ room c =
 
 slice-write-b : tie.Need-slice-write-b Inv-loop μ-loop
 slice-write-b c =
-    let r = room (c .before) in
-    omega (arith, same (c .before .before .before .before))
+    let r = room (c .before .before) in
+    omega (arith, same (c .before .before .before .before .before))
 
 add-n : tie.Need-add-n Inv-loop μ-loop
-add-n c = let r = room (c .before .before) in omega arith
+add-n c = let r = room (c .before .before .before) in omega arith
 
 add-used : tie.Need-add-used Inv-loop μ-loop
 add-used c = search needs
 
 -- the places that the needs below speak of
 abbrev start : tie.After-row-known Inv-loop μ-loop → tie.Start Inv-loop μ-loop
-start c = c .before .before .before .before .before .before .before .before .before .before .before
+start c = c .before .before .before .before .before .before .before .before .before .before .before .before
 
 abbrev head : tie.After-row-known Inv-loop μ-loop → tie.At-loop Inv-loop μ-loop
-head c = c .before .before .before .before .before .before .before .before
+head c = c .before .before .before .before .before .before .before .before .before
 
 abbrev joint : tie.After-row-known Inv-loop μ-loop → tie.Joined1 Inv-loop μ-loop
-joint c = c .before .before .before .before .before
+joint c = c .before .before .before .before .before .before
+
+-- where the byte is taken
+abbrev next : tie.After-row-known Inv-loop μ-loop → ℕ
+next c = c .before .before .skipped .result
 
 -- the byte is taken
 taken : (c : tie.After-row-known Inv-loop μ-loop)
     → Turn
     (reads (take (start c .args .count) (start c .args .b .now)) (drop (start c .args .from) (start c .args .piece .now)))
     (start c .args .piece .now)
-    (set (joint c .if1 .b) (joint c .if1 .n) (getD (start c .args .piece .now) (head c .loop .used) 0))
+    (set (joint c .if1 .b) (joint c .if1 .n) (getD (start c .args .piece .now) (next c) 0))
     (joint c .if1 .n + 1)
-    (head c .loop .used + 1)
+    (next c + 1)
 taken c =
     let j = joined (joint c) in
-    let k = c .before .before .before .enum-told .given .1 in
-    turn-more _ _ _ _ _ (head c .loop .inv) _ (joint c .before .find-front .ensures) _ _ (j .0) (j .1) k (search needs)
+    let k = c .before .before .before .before .enum-told .given .1 in
+    let skips = c .before .before .skipped .ensures in
+    let t = turn-skip _ _ _ _ _ (head c .loop .inv) _ _ (j .1) skips in
+    turn-more _ _ _ _ _ t _ (joint c .before .find-front .ensures) _ _ (j .0) (j .1) k (skips .within)
 
 slice-reshare-prefix-calm : tie.Need-slice-reshare-prefix-calm Inv-loop μ-loop
 slice-reshare-prefix-calm c = turn-fits _ _ _ _ _ (taken c)
@@ -173,7 +183,7 @@ calm-requires c κs = search needs
 -- the bytes that are taken with no look fit
 calmly : (c : tie.After-calm Inv-loop μ-loop)
     → (joint (c .before .before) .if1 .n + 1 + c .calm .result ≤ storeLength)
-    × (head (c .before .before) .loop .used + 1 + c .calm .result ≤ length (start (c .before .before) .args .piece .now))
+    × (next (c .before .before) + 1 + c .calm .result ≤ length (start (c .before .before) .args .piece .now))
 calmly c = calm-room _ _ _ _ _ _ (taken (c .before .before)) (c .calm .ensures)
 
 add-copy : tie.Need-add-copy Inv-loop μ-loop
@@ -206,7 +216,7 @@ copy-requires c κs =
     let r = calmly (c .before .before) in
     let e = turn-long _ _ _ _ _ (taken d) in
     part-long _ (joint d .if1 .n + 1) (c .before .before .calm .result) (omega arith)
-    ∙ sym (part-long (start d .args .piece .now) (head d .loop .used + 1) (c .before .before .calm .result) (r .1))
+    ∙ sym (part-long (start d .args .piece .now) (next d + 1) (c .before .before .calm .result) (r .1))
 
 add-n-2 : tie.Need-add-n-2 Inv-loop μ-loop
 add-n-2 c = let r = calmly (c .before .before .before .before .before) in omega arith
@@ -242,6 +252,7 @@ fill-spec =
     returns
     same-length-2
     returns-2
+    skipped-requires
     shared-slice-read-b
     slice-write-b
     add-n
