@@ -2,40 +2,40 @@
 use Prim.Native.Nat.{ℕ, _+_, _<_, _≤_}
 use mathlib.Core.Path.{_≡_, refl, sym, ap, _∙_}
 use mathlib.Core.List.{List, [], _∷_}
-use mathlib.Core.Bool.{false}
 use mathlib.Core.Logic.{⊎-elim}
 use native.Mathlib.Nat.{eq-or-lt-of-le}
-use native.Mathlib.Numerals.{add-one}
 use native.Mathlib.Omega.{arith}
-use lib.Dec.{eqb}
 use borrow.Author.Tests.{ne-eqb}
 use lib.ListN.{length, getD, drop}
 use lib.Seq.{drop-cons}
 use Rattle.feed.specs.Size.{markByte}
+use Rattle.feed.specs.Format.{look}
 use Rattle.feed.specs.Reader.{settle, reads, Stop}
 use Rattle.feed.specs.Inside.{Skips}
+use Rattle.feed.specs.declared.format.Look.the-variants.{Drops}
 use Rattle.feed.proofs.Reading.{reads-same}
-use Rattle.feed.proofs.InPlace.{reads-junk, drops-one}
+use Rattle.feed.proofs.InPlace.{drops-one}
+use Rattle.feed.proofs.Finding.{Passed, passed-none, passed-more}
 use Rattle.feed.proofs.Turns.{Turn}
 
-skip-more : (piece : List ℕ) (at : ℕ) → at < length piece → eqb (getD piece at 0) markByte ≡ false
-    → reads [] (drop (at + 1) piece) ≡ reads [] (drop at piece)
-skip-more piece at h e =
-    let d : drop at piece ≡ getD piece at 0 ∷ drop (at + 1) piece
-    = drop-cons piece at 0 h ∙ ap (λ (n : ℕ). getD piece at 0 ∷ drop n piece) (sym (add-one at)) in
-    sym (ap (reads []) d ∙ reads-junk _ _ (drops-one _ _ e))
+-- a byte that cannot begin a mark
+other-drops : (piece : List ℕ) (at : ℕ) → at < length piece → (getD piece at 0 ≡ markByte → ⊥) → look (drop at piece) ≡ Drops
+other-drops piece at h e = ap look (drop-cons piece at 0 h) ∙ drops-one _ _ (ne-eqb _ _ e)
+
+-- it is passed over in the piece
+pub passed-other : (piece : List ℕ) (from at : ℕ) → Passed piece from at → at < length piece → (getD piece at 0 ≡ markByte → ⊥)
+    → Passed piece from (at + 1)
+passed-other piece from at t h e = passed-more piece from at t h (other-drops piece at h e)
 
 pub skip-none : (n : ℕ) (piece : List ℕ) (from : ℕ) → from < length piece → Skips n piece from from
 skip-none n piece from h = record { on = omega arith; within = h; stays = λ z. refl; same = refl }
 
 pub skip-on : (n : ℕ) (piece : List ℕ) (from at : ℕ) → n ≤ 0 → Skips n piece from at → at + 1 < length piece
     → (getD piece at 0 ≡ markByte → ⊥) → Skips n piece from (at + 1)
-skip-on n piece from at z k h e = record {
-  on = let o = k .on in omega arith;
-  within = h;
-  stays = λ y. absurd (omega arith);
-  same = skip-more piece at (omega arith) (ne-eqb _ _ e) ∙ k .same;
-}
+skip-on n piece from at z k h e =
+    let t = passed-other piece at at (passed-none piece at (omega arith)) (omega arith) e in
+    let o = k .on in
+    record { on = omega arith; within = h; stays = λ y. absurd (omega arith); same = t .same ∙ k .same }
 
 none : (l : List ℕ) → 0 ≡ length l → l ≡ []
 none [] e = refl

@@ -214,6 +214,10 @@ pub(crate) fn find(b: &mut [u8], count: usize, piece: &[u8], from: usize) -> Fou
     }
     let mut at = from;
     while at < piece.len() {
+        if piece[at] != MARK {
+            at += 1;
+            continue;
+        }
         match look_at(&piece[at..]) {
             Look::Drops => {
                 at += 1;

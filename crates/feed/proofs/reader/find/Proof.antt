@@ -12,6 +12,7 @@ use Rattle.feed.specs.Format.{look}
 use Rattle.feed.specs.Reader.{store}
 use Rattle.feed.proofs.Finding.{finds-filled, held-place, none-held, finds-none, whole-within}
 use Rattle.feed.proofs.Finding.{Passed, passed-none, passed-more, passed-waits, passed-loses, passed-settles, passed-end}
+use Rattle.feed.proofs.Skipping.{passed-other}
 use Rattle.feed.proofs.reader.find.Statement.{statement}
 use Rattle.feed.proofs.reader.find.Tie as tie
 
@@ -40,6 +41,20 @@ returns c =
 loop-holds : tie.Need-loop-holds Inv-loop μ-loop
 loop-holds c = (refl, passed-none _ _ (c .before .before .before .pre .1 .2))
 
+shared-slice-read-if2 : tie.Need-shared-slice-read-if2 Inv-loop μ-loop
+shared-slice-read-if2 c = search needs
+
+add-at : tie.Need-add-at Inv-loop μ-loop
+add-at c = search needs
+
+loop-less : tie.Need-loop-less Inv-loop μ-loop
+loop-less c = search needs
+
+loop-again : tie.Need-loop-again Inv-loop μ-loop
+loop-again c =
+    let v = c .before .before .before .loop .inv in
+    (v .0, passed-other _ _ _ (v .1) (search needs) (c .if2 .taken))
+
 sub-look-at : tie.Need-sub-look-at Inv-loop μ-loop
 sub-look-at c = search needs
 
@@ -52,13 +67,17 @@ part-look-at-end c = search needs
 look-at-requires : tie.Need-look-at-requires Inv-loop μ-loop
 look-at-requires c κs = search needs
 
+-- the turn in which a look is taken
+abbrev head : tie.After-look-at Inv-loop μ-loop → tie.At-loop Inv-loop μ-loop
+head c = c .before .before .before .before .before
+
 -- what is seen there
 seen : (c : tie.After-look-at Inv-loop μ-loop)
     → c .look-at .result
-    ≡ look (drop (c .before .before .before .loop .at) (c .before .before .before .before .before .before .before .args .piece .now))
+    ≡ look (drop (head c .loop .at) (head c .before .before .before .before .args .piece .now))
 seen c =
-    let at = c .before .before .before .loop .at in
-    let s = c .before .before .before .before .before .before .before .args .piece .now in
+    let at = head c .loop .at in
+    let s = head c .before .before .before .before .args .piece .now in
     c .look-at .ensures ∙ ap look (take-all (length s - at) (drop at s) (simp length-drop (omega arith)))
 
 -- nothing is held
@@ -74,15 +93,15 @@ long c = ap length (c .loop .inv .0) ∙ c .before .before .before .before .pre 
 enum-told : tie.Need-enum-told Inv-loop μ-loop
 enum-told c = search needs
 
-add-at : tie.Need-add-at Inv-loop μ-loop
-add-at c = search needs
+add-at-2 : tie.Need-add-at-2 Inv-loop μ-loop
+add-at-2 c = search needs
 
-loop-less : tie.Need-loop-less Inv-loop μ-loop
-loop-less c = search needs
+loop-less-2 : tie.Need-loop-less-2 Inv-loop μ-loop
+loop-less-2 c = search needs
 
-loop-again : tie.Need-loop-again Inv-loop μ-loop
-loop-again c =
-    let l = c .before .before .before .before .before in
+loop-again-2 : tie.Need-loop-again-2 Inv-loop μ-loop
+loop-again-2 c =
+    let l = head (c .before .before) in
     (l .loop .inv .0, passed-more _ _ _ (l .loop .inv .1) (search needs) (sym (seen (c .before .before)) ∙ c .enum-told .given .1))
 
 enum-told-2 : tie.Need-enum-told-2 Inv-loop μ-loop
@@ -90,19 +109,19 @@ enum-told-2 c = search needs
 
 fill-requires-2 : tie.Need-fill-requires-2 Inv-loop μ-loop
 fill-requires-2 c κs =
-    let l = c .before .before .before .before .before .before in
+    let l = head (c .before .before .before) in
     (long l, (omega arith, none l, l .loop .inv .1 .within))
 
 same-length-2 : tie.Need-same-length-2 Inv-loop μ-loop
 same-length-2 c =
-    let l = c .before .before .before .before .before .before .before .before .before in
+    let l = head (c .before .before .before .before .before .before) in
     c .before .before .fill2 .kept .0 ∙ ap length (l .loop .inv .0)
 
 returns-2 : tie.Need-returns-2 Inv-loop μ-loop
 returns-2 c =
     let f = c .before .before .fill2 .ensures in
     let d = c .before .before .before .before in
-    let l = d .before .before .before .before .before in
+    let l = head (d .before .before) in
     let e = sym (seen (d .before .before)) ∙ d .enum-told2 .given .1 in
     finds-none _ _ _ _ _ _ (l .before .if1 .left) (passed-waits _ _ _ (l .loop .inv .1) e _ _ (f .0) (f .1))
 
@@ -111,19 +130,19 @@ enum-told-3 c = search needs
 
 fill-requires-3 : tie.Need-fill-requires-3 Inv-loop μ-loop
 fill-requires-3 c κs =
-    let l = c .before .before .before .before .before .before in
+    let l = head (c .before .before .before) in
     (long l, (omega arith, none l, l .loop .inv .1 .within))
 
 same-length-3 : tie.Need-same-length-3 Inv-loop μ-loop
 same-length-3 c =
-    let l = c .before .before .before .before .before .before .before .before .before in
+    let l = head (c .before .before .before .before .before .before) in
     c .before .before .fill3 .kept .0 ∙ ap length (l .loop .inv .0)
 
 returns-3 : tie.Need-returns-3 Inv-loop μ-loop
 returns-3 c =
     let f = c .before .before .fill3 .ensures in
     let d = c .before .before .before .before in
-    let l = d .before .before .before .before .before in
+    let l = head (d .before .before) in
     let e = sym (seen (d .before .before)) ∙ d .enum-told3 .given .1 in
     finds-none _ _ _ _ _ _ (l .before .if1 .left) (passed-loses _ _ _ (l .loop .inv .1) e _ _ (f .0) (f .1))
 
@@ -133,19 +152,19 @@ enum-known-k c = search needs
 length-of-requires : tie.Need-length-of-requires Inv-loop μ-loop
 length-of-requires c κs = search needs
 
-add-t21 : tie.Need-add-t21 Inv-loop μ-loop
-add-t21 c =
-    let l = c .before .before .before .before .before .before .before in
+add-t23 : tie.Need-add-t23 Inv-loop μ-loop
+add-t23 c =
+    let l = head (c .before .before .before .before) in
     let e = sym (seen (c .before .before .before .before)) ∙ c .before .before .k .given .1 in
     let w = whole-within _ _ _ (l .loop .inv .1) _ e _ (c .length-of .ensures) in
     omega arith
 
 same-length-4 : tie.Need-same-length-4 Inv-loop μ-loop
-same-length-4 c = ap length (c .before .before .before .before .before .before .before .loop .inv .0)
+same-length-4 c = ap length (head (c .before .before .before .before) .loop .inv .0)
 
 returns-4 : tie.Need-returns-4 Inv-loop μ-loop
 returns-4 c =
-    let l = c .before .before .before .before .before .before .before in
+    let l = head (c .before .before .before .before) in
     let e = sym (seen (c .before .before .before .before)) ∙ c .before .before .k .given .1 in
     finds-none _ _ _ _ _ _ (l .before .if1 .left) (passed-settles _ _ _ (l .loop .inv .1) _ e _ (c .length-of .ensures) _ (none l))
 
@@ -168,14 +187,18 @@ find-spec =
     same-length
     returns
     loop-holds
+    shared-slice-read-if2
+    add-at
+    loop-less
+    loop-again
     sub-look-at
     part-look-at-start
     part-look-at-end
     look-at-requires
     enum-told
-    add-at
-    loop-less
-    loop-again
+    add-at-2
+    loop-less-2
+    loop-again-2
     enum-told-2
     fill-requires-2
     same-length-2
@@ -186,7 +209,7 @@ find-spec =
     returns-3
     enum-known-k
     length-of-requires
-    add-t21
+    add-t23
     same-length-4
     returns-4
     same-length-5
