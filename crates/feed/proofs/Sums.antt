@@ -1,7 +1,7 @@
 -- The sum of bytes, one byte more; and what decides whether a record is good where the tests before it hold. Assumes nothing.
 use Prim.Native.Nat.{ℕ, _+_, _%_, _^_, _<_}
-use mathlib.Core.Path.{_≡_, sym, _∙_}
-use mathlib.Core.Bool.{false, _&&_}
+use mathlib.Core.Path.{_≡_, refl, sym, _∙_}
+use mathlib.Core.Bool.{Bool, true, false, _&&_}
 use mathlib.Core.List.{List, [], _∷_, _++_}
 use native.Mathlib.Nat.{mod-add-mod}
 use native.Mathlib.Numerals.{add-one}
@@ -10,9 +10,9 @@ use lib.ListN.{length, getD, take}
 use lib.Seq.{take-suc}
 use lib.Dec.{ltb}
 use borrow.Author.Tests.{eq-eqb, ne-eqb, lt-ltb}
-use Rattle.feed.specs.Size.{reservedFrom}
+use Rattle.feed.specs.Size.{reservedFrom, majorLength}
 use Rattle.feed.specs.Bytes.{two}
-use Rattle.feed.specs.Format.{total, sumOf, reservedZero, quantitiesRight, goodMinor, goodMajor}
+use Rattle.feed.specs.Format.{total, sumOf, sumRight, reservedZero, quantitiesRight, goodMinor, goodMajor}
 
 pub total-snoc : (l : List ℕ) (x : ℕ) → total (l ++ (x ∷ [])) ≡ total l + x
 unfolding total
@@ -48,3 +48,12 @@ module _ (l : List ℕ) (g s : ℕ) where
   pub major-bad : g ≡ two l 613 → s ≡ sumOf (take 613 l) → (g ≡ s → ⊥) → false ≡ goodMajor l
   unfolding goodMajor
   major-bad e f h = simp (ne-eqb _ _ (λ q. h (e ∙ q ∙ sym f)))
+
+-- a reserved bit that is set decides, whatever the sum is
+pub major-reserved : (l : List ℕ) → reservedZero l ≡ false → false ≡ goodMajor l
+unfolding goodMajor
+major-reserved l e = rw e (neither (sumRight majorLength l))
+  where
+    neither : (a : Bool) → false ≡ (a && false && quantitiesRight l)
+    neither true = refl
+    neither false = refl

@@ -128,10 +128,11 @@ fn good_major(s: &[u8]) -> bool
     requires { ⌜ majorLength ≤ length (now s) ⌝ }
     ensures { λ r. ⌜ r ≡ goodMajor (now (s .entry)) ⌝ }
 {
-    if two_at(s, MAJOR_SUMMED) != sum(&s[..MAJOR_SUMMED]) {
+    // The cheaper test first: a false mark seldom passes it.
+    if !reserved_zero(s) {
         return false;
     }
-    if !reserved_zero(s) {
+    if two_at(s, MAJOR_SUMMED) != sum(&s[..MAJOR_SUMMED]) {
         return false;
     }
     quantities_right(s)
