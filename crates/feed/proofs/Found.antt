@@ -9,9 +9,6 @@ use lib.Seq.{take-all}
 use Rattle.feed.specs.Turn.{foundIn}
 
 module _ (n at : ℕ) (held : Bool) (b piece : List ℕ) (fits : n ≤ length (foundIn held at b piece)) where
-  pub found-held : held ≡ true → n ≤ length b
-  found-held e = rw e at fits
-
   pub found-free : held ≡ false → n ≤ length (drop at piece)
   found-free e = rw e at fits
 
