@@ -1,5 +1,5 @@
--- Where nothing is out of the ordinary, steps 1 to 4 are the quiet cycle: a pass over manifolds whose valves have not moved changes nothing,
--- and steps 1 and 2 do not apply. Assumes nothing.
+-- Where nothing is out of the ordinary, steps 1 to 4 are the quiet cycle: a pass over manifolds whose valves have not moved changes
+-- nothing, and steps 1 and 2 do not apply. Assumes nothing.
 use mathlib.Core.Path.{_≡_, refl, sym, ap, _∙_}
 use mathlib.Core.Bool.{Bool, true, false, not, _||_}
 use mathlib.Core.List.{List}
@@ -18,7 +18,8 @@ use Rattle.bits.proofs.Bits.{bit-none}
 use Rattle.cycle.specs.Size.{manifoldCount}
 use Rattle.cycle.specs.Each.{each}
 use Rattle.cycle.specs.Map.{mapped}
-use Rattle.cycle.specs.Words.{Passed, passed, manifold, atManifold, remembered, manifolds, recovered, gapped, minorSteps, minorCycle, offFailure}
+use Rattle.cycle.specs.Words.{Passed, passed, manifold, atManifold, remembered, manifolds}
+use Rattle.cycle.specs.Words.{recovered, gapped, offFailure, minorSteps, minorCycle}
 use Rattle.cycle.specs.Hall.{pastString, masksOf, sampleOf, minorStrings}
 use Rattle.cycle.specs.Quiet.{inhibitedFail, busy, someBusy, quietCycle, quietStrings}
 use Rattle.cycle.specs.declared.map.Masks.{Masks}
@@ -51,8 +52,8 @@ passed-still (suc i) masks v p =
 manifolds-still : (m : ℕ) (masks : List ℕ) (s : StringState) → manifolds m masks (s .standing .valves) s ≡ inhibitedFail s
 unfolding manifolds
 manifolds-still m masks s =
-    ap (λ (p : Passed). remembered (s .standing .valves) p s)
-    (passed-still m masks (s .standing .valves) (record { fail = s .standing .fail; reenable = s .over .reenable; saved = s .standing .saved }))
+    let p : Passed = record { fail = s .standing .fail; reenable = s .over .reenable; saved = s .standing .saved } in
+    ap (λ (p : Passed). remembered (s .standing .valves) p s) (passed-still m masks (s .standing .valves) p)
 
 -- steps 1 and 2 where they do not apply
 recovered-still : (s : StringState) → s .lost ≡ false → recovered s ≡ s
@@ -81,23 +82,25 @@ cycle-quiet m masks x s q =
     ap (λ (y : ℕ). manifolds m masks y t) (sym (valves-kept (bitAnd (mapped m masks) (x .commanded)) (x .pressure) s ∙ v)) ∙
     manifolds-still m masks t
 
+-- the path byte is 0, so no bit of it is set
+path-quiet : (m : ℕ) (masks : List ℕ) (path j : ℕ) (x : Sample) (s : StringState) → path ≡ 0 → busy (x .valves) s ≡ false
+    → minorCycle m masks (bit j path) x false false s ≡ quietCycle m masks x s
+path-quiet m masks path j x s p q = rw (p, bit-none j) (cycle-quiet m masks x s q)
+
 -- all strings
-pub strings-quiet : (n : ℕ) (masks : List Masks) (r : Minor) (strings : List StringState) → r .path ≡ 0 → someBusy n r strings ≡ false
+strings-quiet : (n : ℕ) (masks : List Masks) (r : Minor) (strings : List StringState) → r .path ≡ 0 → someBusy n r strings ≡ false
     → minorStrings n masks r false false strings ≡ quietStrings n masks r strings
 unfolding minorStrings quietStrings someBusy
-strings-quiet n masks r strings p q = each-same-at _ _ pastString strings n each-quiet
-  where
-    each-quiet : (i : ℕ) → i < n
-        → minorCycle manifoldCount (masksOf masks i) (bit i (r .path)) (sampleOf r i) false false (getD strings i pastString)
-        ≡ quietCycle manifoldCount (masksOf masks i) (sampleOf r i) (getD strings i pastString)
-    each-quiet i b =
-        rw (p, bit-none i)
-        (cycle-quiet manifoldCount (masksOf masks i) (sampleOf r i) (getD strings i pastString)
-        (none-any n (λ s. busy ((sampleOf r s) .valves) (getD strings s pastString)) q i b))
+strings-quiet n masks r strings p q =
+    each-same-at _ _ pastString strings n
+    (λ i b.
+    path-quiet manifoldCount (masksOf masks i) (r .path) _ (sampleOf r i) (getD strings i pastString) p
+    (none-any n (λ s. busy ((sampleOf r s) .valves) (getD strings s pastString)) q i b))
 
 -- the same by the test that the code makes
-pub told-quiet : (n : ℕ) (masks : List Masks) (r : Minor) (gap missed some : Bool) (strings : List StringState) → some ≡ someBusy n r strings
-    → (((gap || missed) || not (eqb (r .path) 0)) || some) ≡ false → quietStrings n masks r strings ≡ minorStrings n masks r gap missed strings
+pub told-quiet : (n : ℕ) (masks : List Masks) (r : Minor) (gap missed some : Bool) (strings : List StringState)
+    → some ≡ someBusy n r strings → (((gap || missed) || not (eqb (r .path) 0)) || some) ≡ false
+    → quietStrings n masks r strings ≡ minorStrings n masks r gap missed strings
 told-quiet n masks r gap missed some strings s e =
     let told : ((gap || missed) || not (eqb (r .path) 0)) ≡ false = or-none-left ((gap || missed) || not (eqb (r .path) 0)) some e in
     let late : (gap || missed) ≡ false = or-none-left (gap || missed) (not (eqb (r .path) 0)) told in

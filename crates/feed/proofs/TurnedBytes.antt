@@ -27,5 +27,5 @@ bytes-turned a b c d i j k l = four-same _ _ _ _ _ _ _ _ (omega arith) (omega ar
 pub four-turned : (x : ℕ) → x < 2 ^ 32
     → lowFour (x % 256 * 16777216 + x / 256 % 256 * 65536 + x / 65536 % 256 * 256 + x / 16777216) ≡ inFour x
 four-turned x h =
-    bytes-turned (x % 256) (x / 256 % 256) (x / 65536 % 256) (x / 16777216) (mod-lt x (zero-lt-suc 255)) (mod-lt (x / 256) (zero-lt-suc 255))
-    (mod-lt (x / 65536) (zero-lt-suc 255)) (omega arith)
+    let byte : (w : ℕ) → w % 256 < 256 = λ w. mod-lt w (zero-lt-suc 255) in
+    bytes-turned (x % 256) (x / 256 % 256) (x / 65536 % 256) (x / 16777216) (byte x) (byte (x / 256)) (byte (x / 65536)) (omega arith)
