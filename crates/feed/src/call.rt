@@ -160,10 +160,10 @@ fn turn(hall: Hall, b: &mut [u8], count: usize, piece: &[u8], from: usize, out: 
         };
     }
     let x = step_found(hall, kind, b, piece, held, at);
-    let left = removed(b, held, n, kind);
     let answer = x.answer;
     let h = x.hall;
     write_report(out, answer, h);
+    let left = removed(b, held, n, kind);
     Turned {
         settled: true,
         answer: answer,

@@ -47,9 +47,12 @@ step-found-requires c κs =
           (at-find .find .result) (at-find .find .last .0) short (start .pre .1 .2) found real,
     )
 
+write-report-requires : tie.Need-write-report-requires
+write-report-requires c κs = search needs
+
 removed-requires : tie.Need-removed-requires
 removed-requires c κs =
-    let at-if1 = c .before .before .before in
+    let at-if1 = c .before .before .before .before .before .before .before .before in
     let at-length-of = at-if1 .before in
     let at-find = at-length-of .before .before .before in
     let start = at-find .before .before .before .before .before in
@@ -64,9 +67,6 @@ removed-requires c κs =
           (at-find .find .last .0) short (start .pre .1 .2) found real,
     )
 
-write-report-requires : tie.Need-write-report-requires
-write-report-requires c κs = search needs
-
 same-length-2 : tie.Need-same-length-2
 same-length-2 c = search needs
 
@@ -75,9 +75,9 @@ same-length-3 c = search needs
 
 returns-2 : tie.Need-returns-2
 returns-2 c =
-    let at-write-report = c .before .before in
-    let at-removed = at-write-report .before .before .before .before .before in
-    let at-step-found = at-removed .before .before in
+    let at-removed = c .before .before in
+    let at-write-report = at-removed .before .before .before .before in
+    let at-step-found = at-write-report .before .before .before in
     let at-if1 = at-step-found .before .before in
     let at-length-of = at-if1 .before in
     let at-find = at-length-of .before .before .before in
@@ -103,8 +103,8 @@ turn-spec =
     same-length
     returns
     step-found-requires
-    removed-requires
     write-report-requires
+    removed-requires
     same-length-2
     same-length-3
     returns-2)
