@@ -2,6 +2,7 @@ pub mod Numbers
 pub mod Judgements
 pub mod Each
 pub mod Quiet
+pub mod Loops
 pub mod Maps
 pub mod Leaks
 pub mod Balance

@@ -1,12 +1,11 @@
 -- `cycle::banks::weighed_all` meets its contract. Assumes nothing.
 use borrow.Author.Needs.{needs}
-use mathlib.Core.Path.{_≡_, refl, ap, sym, _∙_}
-use Prim.Native.Nat.{ℕ, _≤_, _-_}
-use native.Mathlib.Omega.{arith}
-use native.Mathlib.Numerals.{add-one}
+use mathlib.Core.Path.{_≡_}
+use Prim.Native.Nat.{_≤_, _-_}
 use Rattle.cycle.specs.Size.{moduleCount}
 use Rattle.cycle.specs.Each.{each}
 use Rattle.cycle.specs.Banks.{weighedAll}
+use Rattle.cycle.proofs.Loops.{turned, ended}
 use Rattle.cycle.proofs.banks.weighed_all.Statement.{statement}
 use Rattle.cycle.proofs.banks.weighed_all.Tie as tie
 
@@ -42,11 +41,13 @@ loop-less : tie.Need-loop-less Inv-loop μ-loop
 loop-less c = search needs
 
 loop-again : tie.Need-loop-again Inv-loop μ-loop
-unfolding weighedAll each
-loop-again c = (search needs, rw add-one (cc))
+unfolding weighedAll
+loop-again c = (search needs, turned _ _ _ _ _ _ (c .before .before .before .loop .inv .1) (c .weighed .ensures))
 
 returns : tie.Need-returns Inv-loop μ-loop
-returns c = let e : c .before .loop .m ≡ moduleCount = omega arith in cc
+returns c =
+    let a = c .before .before .args in
+    ended (λ m. weighedAll m (a .t2) (a .banks)) (c .before .loop .inv) (c .loop-test .left)
 
 pub weighed-all-spec : {M : Type 1} → statement M
 weighed-all-spec =

@@ -1,15 +1,14 @@
 -- `cycle::hall::major_strings` meets its contract. Assumes nothing.
+use lib.Dec.{lit≤}
 use lib.ListN.{getD}
 use Rattle.bits.specs.Bit.{bit}
 use Rattle.cycle.specs.Size.{manifoldCount}
 use Rattle.cycle.specs.Words.{majorCycle}
 use Rattle.cycle.specs.Hall.{pastString, masksOf, sampleOf, noTemperatures, noRequests}
-use Rattle.cycle.proofs.Each.{each-next}
+use Rattle.cycle.proofs.Loops.{next-within, next-nearer, next-fits, turned, ended}
 use borrow.Author.Needs.{needs}
-use mathlib.Core.Path.{_≡_, refl, ap, sym, _∙_}
-use Prim.Native.Nat.{ℕ, _≤_, _-_}
-use native.Mathlib.Omega.{arith}
-use native.Mathlib.Numerals.{add-one}
+use mathlib.Core.Path.{_≡_}
+use Prim.Native.Nat.{_≤_, _-_}
 use Rattle.cycle.specs.Size.{stringCount}
 use Rattle.cycle.specs.Each.{each}
 use Rattle.cycle.specs.Hall.{majorStrings}
@@ -72,28 +71,30 @@ array-set-from-next : tie.Need-array-set-from-next Inv-loop μ-loop
 array-set-from-next c = search needs
 
 add-s : tie.Need-add-s Inv-loop μ-loop
-add-s c = search needs
+add-s c = next-fits (c .before .before .before .before .before .before .before .loop-test .taken) (lit≤ tt)
 
 loop-less : tie.Need-loop-less Inv-loop μ-loop
-loop-less c = search needs
+loop-less c = next-nearer (c .before .before .before .before .before .before .before .loop-test .taken)
 
 loop-again : tie.Need-loop-again Inv-loop μ-loop
 unfolding majorStrings
 loop-again c =
     let a = c .before .before .before .before .before .before .before .before .before .before .args in
-    let at = c .before .before .before .before .before .before .before .before .loop in (
-      search needs,
-      rw add-one
-          (each-next
+    let in-loop = c .before .before .before .before .before .before .before in
+    let at = in-loop .before .loop in (
+      next-within (in-loop .loop-test .taken),
+      turned
           (λ s x.
           majorCycle manifoldCount (masksOf (a .t2) s) (bit s (a .t3 .minor .path)) (sampleOf (a .t3 .minor) s)
           (getD (a .t3 .temperatures) s noTemperatures) (getD (a .t3 .requests) s noRequests) x)
           pastString (a .strings) (at .s) (at .next) (c .major-cycle .result) (at .inv .1)
-          (rw (← c .before .has .ensures) (c .major-cycle .ensures))),
+          (rw (← c .before .has .ensures) (c .major-cycle .ensures)),
     )
 
 returns : tie.Need-returns Inv-loop μ-loop
-returns c = let e : c .before .loop .s ≡ stringCount = omega arith in cc
+returns c =
+    let a = c .before .before .before .args in
+    ended (λ s. majorStrings s (a .t2) (a .t3) (a .strings)) (c .before .loop .inv) (c .loop-test .left)
 
 pub major-strings-spec : {M : Type 1} → statement M
 major-strings-spec =

@@ -1,14 +1,14 @@
 -- `cycle::leak::leak_word` meets its contract. Assumes nothing.
 use Rattle.bits.proofs.Words.{pack-next}
 use borrow.Author.Needs.{needs}
-use mathlib.Core.Path.{_≡_, refl, ap, sym, _∙_}
-use Prim.Native.Nat.{ℕ, _≤_, _-_}
+use mathlib.Core.Path.{_≡_, _∙_}
+use Prim.Native.Nat.{_≤_, _-_}
 use native.Mathlib.Omega.{arith}
 use native.Mathlib.Numerals.{add-one}
 use Rattle.bits.specs.Bit.{pack}
-use Rattle.bits.proofs.Words.{with-is-plus}
 use Rattle.cycle.specs.Size.{jetCount}
 use Rattle.cycle.specs.Words.{jetLeaks, leakWord}
+use Rattle.cycle.proofs.Loops.{ended}
 use Rattle.cycle.proofs.leak.leak_word.Statement.{statement}
 use Rattle.cycle.proofs.leak.leak_word.Tie as tie
 
@@ -67,7 +67,7 @@ loop-again c = (
 
 returns : tie.Need-returns Inv-loop μ-loop
 unfolding leakWord
-returns c = let e : c .before .loop .j ≡ jetCount = omega arith in cc
+returns c = ended (λ j. pack j (jetLeaks (c .before .before .before .args .t .words))) (c .before .loop .inv) (c .loop-test .left)
 
 pub leak-word-spec : {M : Type 1} → statement M
 leak-word-spec =

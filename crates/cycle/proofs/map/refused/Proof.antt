@@ -1,12 +1,11 @@
 -- `cycle::map::refused` meets its contract. Assumes nothing.
 use borrow.Author.Needs.{needs}
-use mathlib.Core.Path.{_≡_, refl, ap, sym, _∙_}
-use Prim.Native.Nat.{ℕ, _≤_, _-_}
-use native.Mathlib.Omega.{arith}
-use native.Mathlib.Numerals.{add-one}
+use mathlib.Core.Path.{_≡_}
+use Prim.Native.Nat.{_≤_, _-_}
 use Rattle.bits.specs.Bit.{any}
 use Rattle.cycle.specs.Size.{stringCount}
 use Rattle.cycle.specs.Map.{refused}
+use Rattle.cycle.proofs.Loops.{refused-turn, ended}
 use Rattle.cycle.proofs.map.refused.Statement.{statement}
 use Rattle.cycle.proofs.map.refused.Tie as tie
 
@@ -36,11 +35,12 @@ loop-less : tie.Need-loop-less Inv-loop μ-loop
 loop-less c = search needs
 
 loop-again : tie.Need-loop-again Inv-loop μ-loop
-unfolding refused any
-loop-again c = (search needs, rw add-one (cc))
+loop-again c =
+    let l = c .before .before .before in
+    (search needs, refused-turn (l .before .args .t1) (l .loop .s) (l .loop .inv .1) (c .overlap .ensures))
 
 returns : tie.Need-returns Inv-loop μ-loop
-returns c = let e : c .before .loop .s ≡ stringCount = omega arith in cc
+returns c = ended (λ s. refused s (c .before .before .args .t1)) (c .before .loop .inv) (c .loop-test .left)
 
 pub refused-spec : {M : Type 1} → statement M
 refused-spec =

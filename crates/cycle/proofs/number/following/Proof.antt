@@ -2,7 +2,8 @@
 use mathlib.Core.Bool.{not}
 use Prim.Native.Nat.{_+_}
 use Rattle.cycle.specs.Numbers.{isMajor}
-use mathlib.Core.Path.{_≡_, refl, ap, ap₂, sym, _∙_}
+use Rattle.cycle.specs.declared.number.Verdict.the-variants.{Takes}
+use mathlib.Core.Path.{_≡_, ap, sym, _∙_}
 use native.Mathlib.Omega.{arith}
 use Rattle.cycle.proofs.Numbers.{follows-ended, follows-wrong, follows-right}
 use borrow.Author.Needs.{needs}
@@ -30,7 +31,8 @@ returns-2 c =
     let start = at-is-major .before .before in
     let a = start .args in
     let kind : isMajor (a .n + a .d) ≡ a .major = sym (at-is-major .is-major .ensures) ∙ c .before .if2 .taken ∙ sym (c .if3 .taken) in
-    cc (follows-right (a .n) (a .d) (a .gap) (a .major) (omega arith) kind)
+    ap (λ m. Takes (record { n = a .n + a .d; gap = a .gap; missed = m })) (c .before .before .missed-major .ensures)
+    ∙ sym (follows-right (a .n) (a .d) (a .gap) (a .major) (omega arith) kind)
 
 returns-3 : tie.Need-returns-3
 returns-3 c =
@@ -39,7 +41,7 @@ returns-3 c =
     let a = start .args in
     let kind : isMajor (a .n + a .d) ≡ not (a .major) = sym (at-is-major .is-major .ensures) ∙ c .before .if2 .taken ∙ sym
     (ap not (c .if3 .left)) in
-    cc (follows-wrong (a .n) (a .d) (a .gap) (a .major) (omega arith) kind)
+    sym (follows-wrong (a .n) (a .d) (a .gap) (a .major) (omega arith) kind)
 
 returns-4 : tie.Need-returns-4
 returns-4 c =
@@ -48,7 +50,7 @@ returns-4 c =
     let a = start .args in
     let kind : isMajor (a .n + a .d) ≡ not (a .major) = sym (at-is-major .is-major .ensures) ∙ c .before .if2 .left ∙ sym
     (ap not (c .if4 .taken)) in
-    cc (follows-wrong (a .n) (a .d) (a .gap) (a .major) (omega arith) kind)
+    sym (follows-wrong (a .n) (a .d) (a .gap) (a .major) (omega arith) kind)
 
 returns-5 : tie.Need-returns-5
 returns-5 c =
@@ -56,7 +58,8 @@ returns-5 c =
     let start = at-is-major .before .before in
     let a = start .args in
     let kind : isMajor (a .n + a .d) ≡ a .major = sym (at-is-major .is-major .ensures) ∙ c .before .if2 .left ∙ sym (c .if4 .left) in
-    cc (follows-right (a .n) (a .d) (a .gap) (a .major) (omega arith) kind)
+    ap (λ m. Takes (record { n = a .n + a .d; gap = a .gap; missed = m })) (c .before .before .missed-major .ensures)
+    ∙ sym (follows-right (a .n) (a .d) (a .gap) (a .major) (omega arith) kind)
 
 pub following-spec : {M : Type 1} → statement M
 following-spec =

@@ -1,6 +1,6 @@
 -- `feed::format::sum` meets its contract. The loop's invariant: after i bytes the sum is that of the first i. Assumes nothing.
-use Prim.Native.Nat.{_≤_, _-_}
-use mathlib.Core.Path.{_≡_, refl, ap, _∙_}
+use Prim.Native.Nat.{_≤_, _+_, _-_, _%_, _^_}
+use mathlib.Core.Path.{_≡_, refl, ap, ap₂, _∙_}
 use native.Mathlib.Omega.{arith}
 use borrow.Author.Needs.{needs}
 use lib.ListN.{length, take}
@@ -37,9 +37,12 @@ loop-less c = search needs
 
 loop-again : tie.Need-loop-again Inv-loop μ-loop
 loop-again c =
-    let l = c .before .before .before .before in
-    let m = sum-more (l .before .before .args .s .now) (l .loop .i) (omega arith) in
-    (search needs, cc (m, c .before .wide16 .ensures .0, c .wrapping-add-u16 .ensures))
+    let l = c .before .before .before .before in (
+      search needs,
+      c .wrapping-add-u16 .ensures
+          ∙ ap₂ (λ t b. (t + b) % 2 ^ 16) (l .loop .inv .1) (c .before .wide16 .ensures .0)
+          ∙ sum-more (l .before .before .args .s .now) (l .loop .i) (c .before .before .before .loop-test .taken),
+    )
 
 returns : tie.Need-returns Inv-loop μ-loop
 returns c =

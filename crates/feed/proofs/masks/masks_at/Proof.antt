@@ -1,12 +1,11 @@
 -- `feed::masks::masks_at` meets its contract. Assumes nothing.
 use borrow.Author.Needs.{needs}
-use mathlib.Core.Path.{_≡_}
+use mathlib.Core.Path.{_≡_, ap}
 use Prim.Native.Nat.{_≤_, _-_}
-use native.Mathlib.Omega.{arith}
-use native.Mathlib.Numerals.{add-one}
 use Rattle.cycle.specs.Each.{each}
 use Rattle.cycle.specs.Size.{manifoldCount}
 use Rattle.feed.specs.Masks.{maskWordsAt}
+use Rattle.cycle.proofs.Loops.{turned, ended}
 use Rattle.feed.proofs.masks.masks_at.Statement.{statement}
 use Rattle.feed.proofs.masks.masks_at.Tie as tie
 
@@ -42,11 +41,13 @@ loop-less : tie.Need-loop-less Inv-loop μ-loop
 loop-less c = search needs
 
 loop-again : tie.Need-loop-again Inv-loop μ-loop
-unfolding maskWordsAt each
-loop-again c = (search needs, rw add-one (cc))
+unfolding maskWordsAt
+loop-again c = (search needs, turned _ _ _ _ _ _ (c .before .before .loop .inv .1) (c .four-at .ensures))
 
 returns : tie.Need-returns Inv-loop μ-loop
-returns c = let e : c .before .loop .k ≡ manifoldCount = omega arith in cc
+returns c =
+    let a = c .before .before .before .args in
+    ap (λ w. record { words = w }) (ended (λ k. maskWordsAt k (a .s .now) (a .i)) (c .before .loop .inv) (c .loop-test .left))
 
 pub masks-at-spec : {M : Type 1} → statement M
 masks-at-spec =

@@ -1,13 +1,14 @@
 -- `feed::report::put_banks` meets its contract. Assumes nothing.
 use borrow.Author.Needs.{needs}
-use mathlib.Core.Path.{_≡_, ap, _∙_}
-use Prim.Native.Nat.{ℕ, _≤_, _+_, _*_, _-_, _%_}
-use native.Mathlib.Nat.{add-sub-cancel-left}
-use native.Mathlib.Omega.{arith}
+use mathlib.Core.Path.{_≡_, _∙_}
+use Prim.Native.Nat.{_≤_, _+_, _*_, _-_, _%_}
+use native.Mathlib.Nat.{le-trans, add-sub-cancel-left}
+use lib.Dec.{lit≤}
 use lib.ListN.{length, set, length-set}
 use Rattle.cycle.specs.Size.{moduleCount}
 use Rattle.feed.specs.Size.{balanceAt}
 use Rattle.feed.proofs.ReportWritten.{lesserIn, lesser-none, lesser-next, lesser-all}
+use Rattle.cycle.proofs.Loops.{next-within, next-nearer, next-fits, ended}
 use Rattle.feed.proofs.report.put_banks.Statement.{statement}
 use Rattle.feed.proofs.report.put_banks.Tie as tie
 
@@ -60,23 +61,25 @@ put-lesser-requires : tie.Need-put-lesser-requires Inv-loop μ-loop
 put-lesser-requires c κs = search needs
 
 add-m : tie.Need-add-m Inv-loop μ-loop
-add-m c = search needs
+add-m c = next-fits (c .before .before .before .before .before .loop-test .taken) (lit≤ tt)
 
 loop-less : tie.Need-loop-less Inv-loop μ-loop
-loop-less c = search needs
+loop-less c = next-nearer (c .before .before .before .before .before .loop-test .taken)
 
 loop-again : tie.Need-loop-again Inv-loop μ-loop
 loop-again c =
-    let l = c .before .before .before .before .before .before in
-    let a = l .before .before .before .args in
+    let in-loop = c .before .before .before .before .before in
+    let l = in-loop .before in
+    let start = l .before .before .before in
+    let a = start .args in
     let b = l .before .balance-of .result in
     let y = c .before .before .put-lesser .last .0 in
     let z = length-set (a .out .now) balanceAt (b % 256) in (
-      search needs,
-      search needs,
+      next-within (in-loop .loop-test .taken),
+      c .before .out .given .1 ∙ l .loop .inv .1,
       rw (add-sub-cancel-left (28 + 2 * l .loop .m) 2)
-          (lesser-next (set (a .out .now) balanceAt (b % 256)) (l .loop .out) y (l .loop .m) (a .t2) (search needs) (l .loop .inv .2)
-          (c .before .before .put-lesser .ensures)),
+          (lesser-next (set (a .out .now) balanceAt (b % 256)) (l .loop .out) y (l .loop .m) (a .t2)
+          (rw z (le-trans (lit≤ tt) (start .pre))) (l .loop .inv .2) (c .before .before .put-lesser .ensures)),
     )
 
 same-length : tie.Need-same-length Inv-loop μ-loop
@@ -90,9 +93,8 @@ returns c =
     let l = c .before in
     let a = l .before .before .before .args in
     let b = l .before .balance-of .result in
-    let e : l .loop .m ≡ moduleCount = omega arith in
-    l .loop .inv .2
-    ∙ ap (λ (m : ℕ). lesserIn (set (a .out .now) balanceAt (b % 256)) m (a .t2)) e
+    let i = l .loop .inv in
+    ended (λ m. lesserIn (set (a .out .now) balanceAt (b % 256)) m (a .t2)) (i .0, i .2) (c .loop-test .left)
     ∙ lesser-all (a .out .now) b (a .t2) (search needs) (l .before .balance-of .ensures)
 
 pub put-banks-spec : {M : Type 1} → statement M

@@ -2,13 +2,15 @@
 use borrow.Author.Needs.{needs}
 use mathlib.Core.Path.{_≡_, ap, _∙_}
 use Prim.Native.Nat.{ℕ, _≤_, _+_, _*_, _-_}
-use native.Mathlib.Nat.{add-sub-cancel-left}
-use native.Mathlib.Omega.{arith}
+use native.Mathlib.Nat.{le-trans, add-sub-cancel-left}
+use lib.Bits.{bitAnd}
+use lib.Dec.{lit≤}
 use lib.ListN.{length}
 use Rattle.cycle.specs.Size.{stringCount}
 use Rattle.cycle.specs.Views.{stringOf}
 use Rattle.feed.specs.Report.{stringBytes, reportedFail}
 use Rattle.feed.proofs.ReportWritten.{stringsIn, strings-none, strings-next, strings-all}
+use Rattle.cycle.proofs.Loops.{next-within, next-nearer, next-fits, ended}
 use Rattle.feed.proofs.report.put_strings.Statement.{statement}
 use Rattle.feed.proofs.report.put_strings.Tie as tie
 
@@ -58,21 +60,26 @@ put-string-requires : tie.Need-put-string-requires Inv-loop μ-loop
 put-string-requires c κs = search needs
 
 add-s : tie.Need-add-s Inv-loop μ-loop
-add-s c = search needs
+add-s c = next-fits (c .before .before .before .before .before .before .before .before .before .loop-test .taken) (lit≤ tt)
 
 loop-less : tie.Need-loop-less Inv-loop μ-loop
-loop-less c = search needs
+loop-less c = next-nearer (c .before .before .before .before .before .before .before .before .before .loop-test .taken)
 
 loop-again : tie.Need-loop-again Inv-loop μ-loop
 loop-again c =
-    let l = c .before .before .before .before .before .before .before .before .before .before in
-    let a = l .before .before .args in
+    let in-loop = c .before .before .before .before .before .before .before .before .before in
+    let l = in-loop .before in
+    let start = l .before .before in
+    let a = start .args in
     let y = c .before .before .put-string .last .0 in
-    let f : y ≡ stringBytes (reportedFail (a .t2) (l .loop .s)) ((stringOf (a .t2) (l .loop .s)) .close) = cc in (
-      search needs,
-      search needs,
+    let x = stringOf (a .t2) (l .loop .s) in
+    let f : y ≡ stringBytes (reportedFail (a .t2) (l .loop .s)) (x .close) =
+    c .before .before .put-string .ensures
+    ∙ ap (λ (w : ℕ). stringBytes (bitAnd w (x .standing .fail)) (x .close)) (c .before .before .before .before .mapped .ensures) in (
+      next-within (in-loop .loop-test .taken),
+      c .before .out .given .1 ∙ l .loop .inv .1,
       rw (add-sub-cancel-left (7 + 5 * l .loop .s) 5)
-          (strings-next (a .out .now) (l .loop .out) y (l .loop .s) (a .t2) (search needs) (l .loop .inv .2) f),
+          (strings-next (a .out .now) (l .loop .out) y (l .loop .s) (a .t2) (le-trans (lit≤ tt) (start .pre)) (l .loop .inv .2) f),
     )
 
 same-length : tie.Need-same-length Inv-loop μ-loop
@@ -81,8 +88,8 @@ same-length c = search needs
 returns : tie.Need-returns Inv-loop μ-loop
 returns c =
     let a = c .before .before .before .args in
-    let e : c .before .loop .s ≡ stringCount = omega arith in
-    c .before .loop .inv .2 ∙ ap (λ (s : ℕ). stringsIn (a .out .now) s (a .t2)) e ∙ strings-all (a .out .now) (a .t2)
+    let i = c .before .loop .inv in
+    ended (λ s. stringsIn (a .out .now) s (a .t2)) (i .0, i .2) (c .loop-test .left) ∙ strings-all (a .out .now) (a .t2)
 
 pub put-strings-spec : {M : Type 1} → statement M
 put-strings-spec =

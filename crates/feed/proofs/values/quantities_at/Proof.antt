@@ -1,5 +1,6 @@
 -- `feed::values::quantities_at` meets its contract. Assumes nothing.
 use borrow.Author.Needs.{needs}
+use mathlib.Core.Path.{ap₂}
 use Rattle.feed.proofs.values.quantities_at.Statement.{statement}
 use Rattle.feed.proofs.values.quantities_at.Tie as tie
 
@@ -13,7 +14,7 @@ two-at-requires-2 : tie.Need-two-at-requires-2
 two-at-requires-2 c κs = search needs
 
 returns : tie.Need-returns
-returns c = cc
+returns c = ap₂ (λ a b. record { fuel = a; oxidizer = b }) (c .before .two-at .ensures) (c .two-at2 .ensures)
 
 pub quantities-at-spec : {M : Type 1} → statement M
 quantities-at-spec = tie.close (tie.spec two-at-requires add-two-at two-at-requires-2 returns)

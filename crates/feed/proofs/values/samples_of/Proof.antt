@@ -2,11 +2,10 @@
 use borrow.Author.Needs.{needs}
 use mathlib.Core.Path.{_≡_}
 use Prim.Native.Nat.{_≤_, _-_}
-use native.Mathlib.Omega.{arith}
-use native.Mathlib.Numerals.{add-one}
 use Rattle.cycle.specs.Each.{each}
 use Rattle.cycle.specs.Size.{stringCount}
 use Rattle.feed.specs.Values.{samplesOf}
+use Rattle.cycle.proofs.Loops.{turned, ended}
 use Rattle.feed.proofs.values.samples_of.Statement.{statement}
 use Rattle.feed.proofs.values.samples_of.Tie as tie
 
@@ -42,11 +41,11 @@ loop-less : tie.Need-loop-less Inv-loop μ-loop
 loop-less c = search needs
 
 loop-again : tie.Need-loop-again Inv-loop μ-loop
-unfolding samplesOf each
-loop-again c = (search needs, rw add-one (cc))
+unfolding samplesOf
+loop-again c = (search needs, turned _ _ _ _ _ _ (c .before .before .loop .inv .1) (c .sample-at .ensures))
 
 returns : tie.Need-returns Inv-loop μ-loop
-returns c = let e : c .before .loop .k ≡ stringCount = omega arith in cc
+returns c = ended (λ k. samplesOf k (c .before .before .before .args .s .now)) (c .before .loop .inv) (c .loop-test .left)
 
 pub samples-of-spec : {M : Type 1} → statement M
 samples-of-spec =

@@ -1,12 +1,11 @@
 -- `feed::values::temperatures_at` meets its contract. Assumes nothing.
 use borrow.Author.Needs.{needs}
-use mathlib.Core.Path.{_≡_}
+use mathlib.Core.Path.{_≡_, ap}
 use Prim.Native.Nat.{_≤_, _-_}
-use native.Mathlib.Omega.{arith}
-use native.Mathlib.Numerals.{add-one}
 use Rattle.cycle.specs.Each.{each}
 use Rattle.feed.specs.Size.{temperatureCount}
 use Rattle.feed.specs.Values.{wordsAt}
+use Rattle.cycle.proofs.Loops.{turned, ended}
 use Rattle.feed.proofs.values.temperatures_at.Statement.{statement}
 use Rattle.feed.proofs.values.temperatures_at.Tie as tie
 
@@ -42,11 +41,13 @@ loop-less : tie.Need-loop-less Inv-loop μ-loop
 loop-less c = search needs
 
 loop-again : tie.Need-loop-again Inv-loop μ-loop
-unfolding wordsAt each
-loop-again c = (search needs, rw add-one (cc))
+unfolding wordsAt
+loop-again c = (search needs, turned _ _ _ _ _ _ (c .before .before .loop .inv .1) (c .two-at .ensures))
 
 returns : tie.Need-returns Inv-loop μ-loop
-returns c = let e : c .before .loop .k ≡ temperatureCount = omega arith in cc
+returns c =
+    let a = c .before .before .before .args in
+    ap (λ w. record { words = w }) (ended (λ k. wordsAt k (a .s .now) (a .i)) (c .before .loop .inv) (c .loop-test .left))
 
 pub temperatures-at-spec : {M : Type 1} → statement M
 temperatures-at-spec =

@@ -1,11 +1,10 @@
 -- `cycle::map::Masks::mapped` meets its contract. Assumes nothing.
 use borrow.Author.Needs.{needs}
-use mathlib.Core.Path.{_≡_, refl, ap, sym, _∙_}
-use Prim.Native.Nat.{ℕ, _≤_, _-_}
-use native.Mathlib.Omega.{arith}
-use native.Mathlib.Numerals.{add-one}
+use mathlib.Core.Path.{_≡_}
+use Prim.Native.Nat.{_≤_, _-_}
 use Rattle.cycle.specs.Size.{manifoldCount}
 use Rattle.cycle.specs.Map.{mapped}
+use Rattle.cycle.proofs.Loops.{mapped-turn, ended}
 use Rattle.cycle.proofs.map.Masks.mapped.Statement.{statement}
 use Rattle.cycle.proofs.map.Masks.mapped.Tie as tie
 
@@ -32,11 +31,12 @@ loop-less : tie.Need-loop-less Inv-loop μ-loop
 loop-less c = search needs
 
 loop-again : tie.Need-loop-again Inv-loop μ-loop
-unfolding mapped
-loop-again c = (search needs, rw add-one (cc))
+loop-again c =
+    let l = c .before in
+    (search needs, mapped-turn (l .before .before .args .self .words) (l .loop .i) (l .loop .inv .1))
 
 returns : tie.Need-returns Inv-loop μ-loop
-returns c = let e : c .before .loop .i ≡ manifoldCount = omega arith in cc
+returns c = ended (λ i. mapped i (c .before .before .before .args .self .words)) (c .before .loop .inv) (c .loop-test .left)
 
 pub mapped-spec : {M : Type 1} → statement M
 mapped-spec =

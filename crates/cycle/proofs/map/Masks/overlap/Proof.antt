@@ -1,11 +1,10 @@
 -- `cycle::map::Masks::overlap` meets its contract. Assumes nothing.
 use borrow.Author.Needs.{needs}
-use mathlib.Core.Path.{_≡_, refl, ap, sym, _∙_}
-use Prim.Native.Nat.{ℕ, _≤_, _-_}
-use native.Mathlib.Omega.{arith}
-use native.Mathlib.Numerals.{add-one}
+use mathlib.Core.Path.{_≡_}
+use Prim.Native.Nat.{_≤_, _-_}
 use Rattle.cycle.specs.Size.{manifoldCount}
 use Rattle.cycle.specs.Map.{mapped, overlap}
+use Rattle.cycle.proofs.Loops.{mapped-turn, overlap-turn, ended}
 use Rattle.cycle.proofs.map.Masks.overlap.Statement.{statement}
 use Rattle.cycle.proofs.map.Masks.overlap.Tie as tie
 
@@ -41,11 +40,18 @@ loop-less : tie.Need-loop-less Inv-loop μ-loop
 loop-less c = search needs
 
 loop-again : tie.Need-loop-again Inv-loop μ-loop
-unfolding mapped overlap
-loop-again c = (search needs, rw add-one (cc), rw add-one (cc))
+loop-again c =
+    let l = c .before .before in
+    let w = l .before .before .args .self .words in (
+      search needs,
+      mapped-turn w (l .loop .i) (l .loop .inv .1),
+      overlap-turn w (l .loop .i) (l .loop .inv .1) (l .loop .inv .2) (c .meets .ensures),
+    )
 
 returns : tie.Need-returns Inv-loop μ-loop
-returns c = let e : c .before .loop .i ≡ manifoldCount = omega arith in cc
+returns c =
+    let l = c .before in
+    ended (λ i. overlap i (l .before .before .args .self .words)) (l .loop .inv .0, l .loop .inv .2) (c .loop-test .left)
 
 pub overlap-spec : {M : Type 1} → statement M
 overlap-spec =
