@@ -10,14 +10,9 @@ use lib.Dec.{ltb, ltb→lt}
 use borrow.Author.Tests.{lt-ltb, le-ltb}
 use Rattle.bits.proofs.Yes.{T-of, not-both}
 use Rattle.cycle.specs.Size.{mostApart}
-use Rattle.cycle.specs.Banks.{compared, weighed}
+use Rattle.cycle.specs.Banks.{compared, weighed, Weighed}
 use Rattle.cycle.specs.declared.banks.Bank.{Bank}
 use Rattle.cycle.specs.declared.values.Quantities.{Quantities}
-
-pub record Weighed (fuel oxidizer : ℕ) (b : Bank) : Type 0 where
-  pub apart : (b .unbalanced ≡ true) ↔ ((fuel + 16 < oxidizer) ⊎ (oxidizer + 16 < fuel))
-  pub strictly : (b .oxidizer ≡ true) ↔ (oxidizer < fuel)
-  pub smaller : b .lesser ≡ min fuel oxidizer
 
 module _ (fuel oxidizer : ℕ) where
   -- the oxidizer is strictly less

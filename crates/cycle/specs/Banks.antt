@@ -1,7 +1,9 @@
 -- The banks (2.2.8): "Once per major cycle, for each module, whatever the path bits". Assumes nothing.
+use mathlib.Core.Path.{_≡_}
 use mathlib.Core.Bool.{Bool, true, false, cond}
 use mathlib.Core.List.{List}
-use Prim.Native.Nat.{ℕ, _-_}
+use mathlib.Core.Logic.{_⊎_, _↔_}
+use Prim.Native.Nat.{ℕ, _+_, _-_, _<_, min}
 use lib.Dec.{ltb}
 use lib.ListN.{getD}
 use Rattle.cycle.specs.Size.{mostApart}
@@ -28,3 +30,9 @@ weighed q = cond (ltb (q .oxidizer) (q .fuel)) (compared true (q .fuel) (q .oxid
 -- each of the lowest n modules
 unfoldable pub weighedAll : ℕ → List Quantities → List Bank → List Bank
 weighedAll n q banks = each n (λ m b. weighed (getD q m noQuantities)) noBank banks
+
+-- the same by arithmetic: what the banks of a module are, for these quantities
+pub record Weighed (fuel oxidizer : ℕ) (b : Bank) : Type 0 where
+  pub apart : (b .unbalanced ≡ true) ↔ ((fuel + 16 < oxidizer) ⊎ (oxidizer + 16 < fuel))
+  pub strictly : (b .oxidizer ≡ true) ↔ (oxidizer < fuel)
+  pub smaller : b .lesser ≡ min fuel oxidizer

@@ -16,7 +16,7 @@ use Rattle.feed.specs.Size.{reportLength}
 use Rattle.feed.specs.Settled.{valuesIn}
 use Rattle.feed.specs.Call.{holds, Result, called, settledAny, Reported, runs}
 use Rattle.feed.specs.Calls.{Made, monitorAfter, resultOf, answerOf, reportIn, Hands, calls}
-use Rattle.feed.specs.Batch.{allReports, Continues}
+use Rattle.feed.specs.Batch.{allReports, AllSettled, LastAlone, Continues}
 use Rattle.feed.specs.declared.call.Monitor.{Monitor}
 use Rattle.feed.specs.declared.call.Outcome.{Outcome}
 use Rattle.feed.proofs.Lengths.{by-test}
@@ -79,6 +79,19 @@ module _ (masks : List Masks) (cs : List Made) (piece : List ℕ) where
       ap (λ (x : Outcome). writesReport (x .answer)) same-outcome ∙ sym (settled-writes (c .outcome .answer)) ∙ e in
       rw a refl
 
+-- a call more before the others
+settled-behind : (masks : List Masks) (first : Made) (cs ys : List Made) → writesReport (answerOf masks first cs) ≡ true
+    → AllSettled masks ys (first ∷ cs) → AllSettled masks (ys ++ (first ∷ [])) cs
+settled-behind masks first cs [] e s = (e, tt)
+settled-behind masks first cs (y ∷ ys) e s =
+    (rw (append-assoc ys (first ∷ []) cs) (s .0), settled-behind masks first cs ys e (s .1))
+
+last-behind : (masks : List Masks) (first : Made) (cs ys : List Made) → writesReport (answerOf masks first cs) ≡ true
+    → LastAlone masks ys (first ∷ cs) → LastAlone masks (ys ++ (first ∷ [])) cs
+last-behind masks first cs [] e s = absurd s
+last-behind masks first cs (y ∷ ys) e s =
+    (rw (append-assoc ys (first ∷ []) cs) (s .0), settled-behind masks first cs ys e (s .1))
+
 module _ (masks : List Masks) (feed behind : List ℕ) where
   abbrev Batch : ℕ → Type 0
   Batch n = (cs : List Made) (piece : List ℕ) → Hands masks feed cs (piece ++ behind)
@@ -100,10 +113,12 @@ module _ (masks : List Masks) (feed behind : List ℕ) where
       rw (runs-last n (monitorAfter masks cs) piece e) (record {
         more = made masks cs piece ∷ [];
         most = omega arith;
+        within = used-within (m masks cs piece) piece [];
+        full = λ y. not-both false y refl;
         hands = handed cs piece h;
         monitor = ap (λ (x : Outcome). x .monitor) same;
         reports = ap (λ (l : List ℕ). allReports masks cs ++ l) (report-none masks cs piece e);
-        idle = λ y. (ap (λ (x : Outcome). x .answer) same ∙ i .0, i .1);
+        idle = λ y. ((ap (λ (x : Outcome). x .answer) same ∙ i .0, tt), i .1);
       })
 
   more : (n : ℕ) → Batch n → (cs : List Made) (piece : List ℕ) → Hands masks feed cs (piece ++ behind)
@@ -123,9 +138,13 @@ module _ (masks : List Masks) (feed behind : List ℕ) where
       let all : (y .more ++ (first ∷ [])) ++ cs ≡ y .more ++ (first ∷ cs) = append-assoc (y .more) (first ∷ []) cs in
       let far : drop (r .used) rest ≡ drop (one .outcome .used + r .used) piece = drop-drop (r .used) (one .outcome .used) piece in
       let l = length-append (y .more) (first ∷ []) in
+      let settled : writesReport (answerOf masks first cs) ≡ true =
+      ap (λ (x : Outcome). writesReport (x .answer)) (same-outcome masks cs piece) ∙ sym (settled-writes (one .outcome .answer)) ∙ e in
       rw (runs-more n (monitorAfter masks cs) piece e) (record {
         more = y .more ++ (first ∷ []);
         most = omega (arith, y .most, l);
+        within = omega (arith, y .within, used-within (monitorAfter masks cs) piece [], length-drop (one .outcome .used) piece);
+        full = λ z. let f = y .full z in (settled-behind masks first cs (y .more) settled (f .0), omega (arith, f .1, l));
         hands = rw (all, ← far) (y .hands);
         monitor = rw all (y .monitor);
         reports = rw all
@@ -136,7 +155,7 @@ module _ (masks : List Masks) (feed behind : List ℕ) where
             let i = y .idle z in
             let w = used-within (monitorAfter masks cs) piece [] in
             let n : one .outcome .used + r .used ≡ length piece = omega (arith, i .1, length-drop (one .outcome .used) piece) in
-            (rw all (i .0), n);
+            (last-behind masks first cs (y .more) settled (i .0), n);
       })
 
   pub batch-continues : (n : ℕ) → Batch n
@@ -144,6 +163,8 @@ module _ (masks : List Masks) (feed behind : List ℕ) where
       rw (runs-none (monitorAfter masks cs) piece) (record {
         more = [];
         most = omega arith;
+        within = omega arith;
+        full = λ z. (tt, refl);
         hands = h;
         monitor = refl;
         reports = sym (append-nil (allReports masks cs));

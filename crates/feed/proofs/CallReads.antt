@@ -4,28 +4,29 @@ use mathlib.Core.List.{List, [], _++_}
 use mathlib.Core.Logic.{_⊎_, inl, inr}
 use Prim.Native.Nat.{ℕ, _+_, _-_, _<_, _≤_}
 use native.Mathlib.Omega.{arith}
-use lib.ListN.{length, take, drop, length-append, length-drop, take-append-drop}
+use lib.ListN.{length, take, drop, replicate, length-append, length-drop, take-append-drop}
 use lib.Seq.{length-take-le, take-append-le, take-at, drop-at}
 use Rattle.feed.specs.Size.{storeLength, outboxNeeded}
 use Rattle.feed.specs.Format.{lengthOf, look}
-use Rattle.feed.specs.Reader.{settle, shown, Stop, reads}
+use Rattle.feed.specs.Reader.{settle, shown, Stop, reads, store}
 use Rattle.feed.specs.Good.{WholeRecord}
 use Rattle.feed.specs.Settled.{kindIn, recordIn}
-use Rattle.feed.specs.Answered.{Read}
+use Rattle.feed.specs.Answered.{Unfit, Read}
 use Rattle.feed.specs.Call.{holds, calledBy, settledOne, called, call}
 use Rattle.feed.specs.declared.format.Kind.{Kind}
 use Rattle.feed.specs.declared.format.Kind.the-variants.{NoKind}
 use Rattle.feed.specs.declared.call.Monitor.{Monitor}
-use Rattle.feed.proofs.Lengths.{Real, by-kind, real-long}
+use Rattle.feed.proofs.Lengths.{Real, by-kind, real-long, real-none}
 use Rattle.feed.proofs.Settling.{settle-append, settled-append}
-use Rattle.feed.proofs.Fronts.{settle-short, settle-end}
+use Rattle.feed.proofs.Fronts.{settle-short, settle-end, settled-waits}
 use Rattle.feed.proofs.Reading.{reads-whole, reads-short, reads-waits}
 use Rattle.feed.proofs.Turning.{rest-short, shown-sized}
 use Rattle.feed.proofs.Tails.{dropped-bad}
 use Rattle.feed.proofs.Goods.{whole-settles}
 use Rattle.feed.proofs.Calling.{holds-short, call-called}
 use Rattle.feed.proofs.CallCases.{real-called}
-use Rattle.feed.proofs.FirstRecord.{record-none, record-whole}
+use Rattle.feed.proofs.FirstRecord.{record-none, record-some, record-whole}
+use Rattle.feed.proofs.Gone.{dropped-go, goes-unfit, waits-waiting}
 use Rattle.feed.proofs.Stops.{stops}
 
 module _ (m : Monitor) (piece out : List ℕ) where
@@ -85,6 +86,17 @@ module _ (m : Monitor) (piece out : List ℕ) where
       let kind : kindIn all ≡ x .0 = ap (λ (t : List ℕ). shown (look t)) here ∙ ap shown (settled-append r rest (x .0) (x .2 .1)) in
       ap₂ (λ (k : Kind) (t : List ℕ). take (lengthOf k) t) kind here ∙ take-at r rest (lengthOf (x .0)) (x .2 .0)
 
+  gone-unfit : (i : ℕ) → i < length gone → Unfit (drop i front)
+  unfolding gone
+  gone-unfit i l =
+      let f = settle-short front in
+      let n : length gone ≡ length front - length (settle front) =
+      length-take-le (length front - length (settle front)) front (omega arith) in
+      goes-unfit (drop i front) (dropped-go front i (omega (arith, n)))
+
+  zeros-behind : (held : List ℕ) → drop (length held) (store held) ≡ replicate (615 - length held) 0
+  zeros-behind held = drop-at held (replicate (615 - length held) 0) (length held) refl
+
   not-before : (u : ℕ) → u < taken → recordIn (holds m ++ take u piece) ≡ []
   not-before u l = record-none (holds m ++ take u piece) (stops (holds m) piece .before u l)
 
@@ -117,8 +129,11 @@ module _ (m : Monitor) (piece out : List ℕ) where
         held = stop .left;
         parts = front-parts ∙ ap (λ (t : List ℕ). gone ++ (t ++ stop .left)) (sym r);
         store = refl;
+        zeros = zeros-behind (stop .left);
         short = reads-waits (holds m) piece (kind-same ∙ z);
         whole = inl r;
+        gone = gone-unfit;
+        waits = λ e. waits-waiting (stop .left) (reads-whole (holds m) piece .1 ∙ settled-waits all z);
         noneLost = none-lost;
         settled = settled-there;
         within = omega arith;
@@ -140,8 +155,11 @@ module _ (m : Monitor) (piece out : List ℕ) where
             ∙ ap (λ (t : List ℕ). gone ++ t)
             (sym (take-append-drop n (stop .left)) ∙ ap (λ (t : List ℕ). t ++ drop n (stop .left)) (sym first-same));
         store = refl;
+        zeros = zeros-behind (drop n (stop .left));
         short = omega (arith, length-drop n (stop .left), real-long (kindIn all) r);
         whole = inr (record-whole all r);
+        gone = gone-unfit;
+        waits = λ e. absurd (omega (arith, record-some all (real-none (kindIn all) r), ap length e));
         noneLost = none-lost;
         settled = settled-there;
         within = omega arith;

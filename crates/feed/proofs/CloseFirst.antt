@@ -115,12 +115,12 @@ module _ (masks : List Masks) (fit : FitMap masks) (accepted : refused stringCou
   unfolding takenRecords
   never-to [] n x = x .third
   never-to (c ∷ cs) n x = by-answer c cs
-      (λ e. n .0 e (close-shown c cs (ap writesReport e) .1 x))
+      (λ e. n .0 (ap writesReport e) (close-shown c cs (ap writesReport e) .1 x))
       (λ f. never-to cs (n .1) (rw (taken-stays c cs f) at x))
 
   never-from : (cs : List Made) → (ThirdEver mask s i (takenRecords masks cs) → ⊥) → NeverShown masks s i cs
   never-from [] f = tt
-  never-from (c ∷ cs) f = (λ e y. f (close-shown c cs (ap writesReport e) .0 y), never-from cs (λ x. f (still c cs x)))
+  never-from (c ∷ cs) f = (λ e y. f (close-shown c cs e .0 y), never-from cs (λ x. f (still c cs x)))
     where
       still : (c : Made) (cs : List Made) → ThirdEver mask s i (takenRecords masks cs) → ThirdEver mask s i (takenRecords masks (c ∷ cs))
       still c cs x = by-answer c cs

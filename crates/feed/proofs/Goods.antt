@@ -26,7 +26,7 @@ abbrev pub Settled : List ℕ → Kind → Type 0
 Settled r k = (length r ≡ lengthOf k) × (look r ≡ Settles k)
 
 -- the kind that the second byte announces
-minor-mark : (b : ℕ) → Minor ≡ kindOf b → b ≡ minorMark
+pub minor-mark : (b : ℕ) → Minor ≡ kindOf b → b ≡ minorMark
 unfolding kindOf
 minor-mark b e = by-test (eqb b minorMark) (λ t. eqb-true b minorMark t) (λ t.
     let z : Minor ≡ cond (eqb b majorMark) Major NoKind = e ∙ ap (λ (x : Bool). cond x Minor (cond (eqb b majorMark) Major NoKind)) t in
@@ -36,7 +36,7 @@ minor-mark b e = by-test (eqb b minorMark) (λ t. eqb-true b minorMark t) (λ t.
     not-minor true q = let o : _≡_ {A = ℕ} 0 1 = cc in absurd (omega arith)
     not-minor false q = let o : _≡_ {A = ℕ} 0 1 = cc in absurd (omega arith)
 
-major-mark : (b : ℕ) → Major ≡ kindOf b → b ≡ majorMark
+pub major-mark : (b : ℕ) → Major ≡ kindOf b → b ≡ majorMark
 unfolding kindOf
 major-mark b e = by-test (eqb b majorMark) (λ t. eqb-true b majorMark t) (λ t.
     let z : Major ≡ cond (eqb b minorMark) Minor NoKind = e ∙ ap (λ (x : Bool). cond (eqb b minorMark) Minor (cond x Major NoKind)) t in

@@ -19,6 +19,7 @@ pub mod ReportWritten
 pub mod NumbersInBytes
 pub mod TurnedBytes
 pub mod Parts
+pub mod ReportBytes
 pub mod ReportPlaces
 pub mod BalanceBits
 pub mod ValuesTaken
@@ -31,6 +32,7 @@ pub mod Tails
 pub mod GoodParts
 pub mod Goods
 pub mod FirstRecord
+pub mod Gone
 pub mod CallCases
 pub mod AtOnce
 pub mod CallsAtOnce

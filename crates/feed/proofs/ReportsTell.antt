@@ -41,6 +41,7 @@ use Rattle.feed.specs.Heard.{Heard, jetHistory, bankHeard}
 use Rattle.feed.specs.Tells.{Tells}
 use Rattle.feed.specs.declared.call.Monitor.{Monitor}
 use Rattle.feed.proofs.ReportLengths.{report-length}
+use Rattle.feed.proofs.ReportBytes.{report-bytes}
 use Rattle.feed.proofs.ReportPlaces.{answer-at, n-at, fail-at, close-at, balance-at, lesser-at}
 use Rattle.feed.proofs.BalanceBits.{unbalanced-bit, oxidizer-bit, blank-bits, balance-byte}
 use Rattle.feed.proofs.Left.{call-leaves}
@@ -118,6 +119,7 @@ module _ (masks : List Masks) (h : Hall) (ts : List Heard) (kept : Kept masks h 
   unfolding reportOf headOf
   hall-tells = record {
     long = report-length a h;
+    byte = report-bytes a h;
     mark = (refl, refl);
     answer = answer-at a h;
     number = n-at a h (omega (arith, kept .fits .number)) ∙ kept .run .told .number ∙ reached-carried (kept .carry);

@@ -1,27 +1,27 @@
--- Demand 1 of starting: 6 exactly if two masks of one string share a bit, and the fresh monitor; and the map from its bytes.
--- Assumes nothing.
-use mathlib.Core.Path.{_≡_, refl, sym, subst}
+-- Demand 1 of starting: 6 exactly if two masks of one string share a bit, and the fresh monitor; the map from its bytes; and
+-- what a state handed in holds. Assumes nothing.
+use mathlib.Core.Path.{_≡_, refl, ap, _∙_}
 use mathlib.Core.Bool.{Bool, true, false}
-use mathlib.Core.List.{List}
+use mathlib.Core.List.{List, []}
 use mathlib.Core.Logic.{_↔_}
-use Prim.Native.Nat.{ℕ, _+_, _*_, _^_, _<_}
+use Prim.Native.Nat.{ℕ, _+_, _*_, _<_, _≤_}
 use native.Mathlib.Omega.{arith}
-use borrow.Author.Tests.{eq-eqb}
-use lib.ListN.{length, getD, replicate}
-use Rattle.bits.specs.Bit.{wordBits}
+use borrow.Author.Tests.{eq-eqb, ne-eqb, lt-ltb, le-ltb}
+use lib.ListN.{length, getD, take, replicate}
 use Rattle.bits.proofs.Yes.{not-both}
 use Rattle.cycle.specs.Size.{stringCount, manifoldCount}
 use Rattle.cycle.specs.Map.{noMasks, pastMasks, refused}
-use Rattle.cycle.specs.Hall.{started}
+use Rattle.cycle.specs.Hall.{masksOf, started}
 use Rattle.cycle.specs.Proper.{FitMap, TwoMasks}
-use Rattle.cycle.specs.declared.answer.Answer.the-variants.{Taken, MapRefused}
+use Rattle.cycle.specs.declared.answer.Answer.the-variants.{Taken, MapRefused, NothingSettled}
 use Rattle.cycle.specs.declared.map.Masks.{Masks}
 use Rattle.cycle.proofs.Each.{each-at}
 use Rattle.cycle.proofs.Maps.{refused-exactly}
 use Rattle.feed.specs.Answered.{Starts}
-use Rattle.feed.specs.Size.{mapLength, masksLength}
+use Rattle.feed.specs.Size.{mapLength, masksLength, mostHeld}
 use Rattle.feed.specs.Bytes.{four}
-use Rattle.feed.specs.Call.{startedOver}
+use Rattle.feed.specs.Call.{holds, startedOver}
+use Rattle.feed.specs.declared.call.Monitor.{Monitor}
 use Rattle.feed.specs.Masks.{maskWordsAt, masksAt, masksOfBytes, startedFrom}
 
 pub starts-exactly : (masks : List Masks) → FitMap masks → Starts masks (startedOver masks)
@@ -54,19 +54,31 @@ pub starts-from : (l : List ℕ) → length l ≡ mapLength → startedFrom l �
 unfolding startedFrom
 starts-from l e = rw (eq-eqb (length l) mapLength e) refl
 
-module _ (l : List ℕ) (bytes : (i : ℕ) → getD l i 0 < 256) where
-  four-fits : (i : ℕ) → four l i < 2 ^ wordBits
-  four-fits i = omega (arith, bytes i, bytes (i + 1), bytes (i + 2), bytes (i + 3))
+pub no-map : (l : List ℕ) → (length l ≡ mapLength → ⊥) → (startedFrom l) .answer ≡ NothingSettled
+unfolding startedFrom
+no-map l e = rw (ne-eqb (length l) mapLength e) refl
 
-  word-fits : (p i : ℕ) → i < manifoldCount → getD (maskWordsAt manifoldCount l p) i 0 < 2 ^ wordBits
+module _ (l : List ℕ) where
+  string-at : (s : ℕ) → s < stringCount → getD (masksOfBytes stringCount l) s pastMasks ≡ masksAt l (masksLength * s)
+  unfolding masksOfBytes
+  string-at s a =
+      each-at (λ k x. masksAt l (masksLength * k)) pastMasks (replicate stringCount noMasks) stringCount s a (omega arith)
+
+  word-at : (p i : ℕ) → i < manifoldCount → getD (maskWordsAt manifoldCount l p) i 0 ≡ four l (p + 4 * i)
   unfolding maskWordsAt
-  word-fits p i b =
-      rw (each-at (λ k x. four l (p + 4 * k)) 0 (replicate manifoldCount 0) manifoldCount i b (omega arith)) (four-fits (p + 4 * i))
+  word-at p i b = each-at (λ k x. four l (p + 4 * k)) 0 (replicate manifoldCount 0) manifoldCount i b (omega arith)
+
+  -- "64 bytes, string by string, high byte first"
+  pub mask-at : (s i : ℕ) → s < stringCount → i < manifoldCount → getD (masksOf (masksOfBytes stringCount l) s) i 0 ≡ four l (16 * s + 4 * i)
+  mask-at s i a b = ap (λ (x : Masks). getD (x .words) i 0) (string-at s a) ∙ word-at (masksLength * s) i b
 
   -- a map from bytes is one of words
-  pub bytes-fit : FitMap (masksOfBytes stringCount l)
-  unfolding masksOfBytes
-  bytes-fit s i a b =
-      let e : getD (masksOfBytes stringCount l) s pastMasks ≡ masksAt l (masksLength * s) =
-      each-at (λ k x. masksAt l (masksLength * k)) pastMasks (replicate stringCount noMasks) stringCount s a (omega arith) in
-      subst (λ (x : Masks). getD (x .words) i 0 < 2 ^ wordBits) (sym e) (word-fits (masksLength * s) i b)
+  pub bytes-fit : ((i : ℕ) → getD l i 0 < 256) → FitMap (masksOfBytes stringCount l)
+  bytes-fit bytes s i a b =
+      let p : ℕ = 16 * s + 4 * i in
+      rw (mask-at s i a b) (omega (arith, bytes p, bytes (p + 1), bytes (p + 2), bytes (p + 3)))
+
+-- ---- a state handed in
+
+pub holds-exactly : (m : Monitor) → (614 < m .count → holds m ≡ []) × (m .count ≤ 614 → holds m ≡ take (m .count) (m .held))
+holds-exactly m = (λ l. rw (lt-ltb mostHeld (m .count) l) refl, λ l. rw (le-ltb mostHeld (m .count) l) refl)

@@ -14,7 +14,7 @@ use Rattle.cycle.specs.declared.answer.Answer.{Answer}
 use Rattle.cycle.specs.declared.answer.Answer.the-variants.{Taken, Stale, Repeat, CountEnded, WrongKind, OutboxShort, MapRefused}
 use Rattle.cycle.specs.declared.answer.Answer.the-variants.{NothingSettled}
 use Rattle.cycle.specs.declared.map.Masks.{Masks}
-use Rattle.feed.specs.Good.{WholeRecord}
+use Rattle.feed.specs.Good.{MinorRecord, MajorRecord, WholeRecord}
 use Rattle.feed.specs.Settled.{recordIn, valuesIn}
 use Rattle.feed.specs.Report.{reportOf}
 use Rattle.feed.specs.Call.{holds, holding, Result}
@@ -73,23 +73,41 @@ Leaves MapRefused m piece out c = ⊥
 Leaves NothingSettled m piece out c =
     (c .outcome .monitor .hall ≡ m .hall) × (c .outcome .used ≡ length piece) × (c .outbox ≡ out)
 
+-- "If the bytes there can't begin a mark, it drops one byte. .. A full record with a wrong sum, a non-zero reserved bit or a quantity above
+-- 1,000 loses its first byte": bytes l whose first one goes
+pub data Unfit (l : List ℕ) : Type 0 where
+  noMark : (getD l 0 0 ≡ 0x52 → ⊥) → Unfit l
+  noKind : 2 ≤ length l → (getD l 1 0 ≡ 0x4D → ⊥) → (getD l 1 0 ≡ 0x4A → ⊥) → Unfit l
+  badMinor : getD l 1 0 ≡ 0x4D → 59 ≤ length l → (MinorRecord (take 59 l) → ⊥) → Unfit l
+  badMajor : getD l 1 0 ≡ 0x4A → 615 ≤ length l → (MajorRecord (take 615 l) → ⊥) → Unfit l
+
+-- "If they're a mark or the start of one, it waits for the full length."
+pub data Waiting (l : List ℕ) : Type 0 where
+  empty : length l ≡ 0 → Waiting l
+  begun : length l ≡ 1 → getD l 0 0 ≡ 0x52 → Waiting l
+  minor : getD l 0 0 ≡ 0x52 → getD l 1 0 ≡ 0x4D → length l < 59 → Waiting l
+  major : getD l 0 0 ≡ 0x52 → getD l 1 0 ≡ 0x4A → length l < 615 → Waiting l
+
 -- The reader after a call that is not answered 5: what was held and what was used of the piece is bytes dropped, the record settled, and
--- the bytes held then, with zeros behind them; the record is whole; every byte dropped stood where no whole record starts, whatever comes
--- later; a whole record that stands behind the dropped bytes is settled; and the call stopped at the very byte that settled the record:
--- "exactly those up to the one that settled the record, none if held bytes did, or all".
+-- the bytes held then, with zeros behind them. Each byte dropped had to go by what had come, and stood where no whole record starts,
+-- whatever comes later; the record is whole; where none is settled the held bytes wait; and the call stopped at the very byte that settled
+-- the record: "exactly those up to the one that settled the record, none if held bytes did, or all".
 pub record Read (m : Monitor) (piece : List ℕ) (c : Result) : Type 0 where
   pub dropped : List ℕ
   pub held : List ℕ
   pub parts : holds m ++ take (c .outcome .used) piece ≡ dropped ++ (recordIn (holds m ++ piece) ++ held)
-  pub store : c .outcome .monitor ≡ holding (c .outcome .monitor .hall) held
-  pub short : length held ≤ 614
-  pub whole : (recordIn (holds m ++ piece) ≡ []) ⊎ WholeRecord (recordIn (holds m ++ piece))
+  pub gone : (i : ℕ) → i < length dropped → Unfit (drop i (holds m ++ take (c .outcome .used) piece))
   pub noneLost : (i : ℕ) → i < length dropped → (later r rest : List ℕ) → drop i ((holds m ++ piece) ++ later) ≡ r ++ rest
       → WholeRecord r → ⊥
+  pub whole : (recordIn (holds m ++ piece) ≡ []) ⊎ WholeRecord (recordIn (holds m ++ piece))
   pub settled : (r rest : List ℕ) → holds m ++ piece ≡ dropped ++ (r ++ rest) → WholeRecord r → recordIn (holds m ++ piece) ≡ r
+  pub waits : recordIn (holds m ++ piece) ≡ [] → Waiting held
   pub within : c .outcome .used ≤ length piece
   pub settles : recordIn (holds m ++ take (c .outcome .used) piece) ≡ recordIn (holds m ++ piece)
   pub notBefore : (u : ℕ) → u < c .outcome .used → recordIn (holds m ++ take u piece) ≡ []
+  pub store : c .outcome .monitor ≡ holding (c .outcome .monitor .hall) held
+  pub zeros : drop (length held) (c .outcome .monitor .held) ≡ replicate (615 - length held) 0
+  pub short : length held ≤ 614
 
 -- ---- starting
 

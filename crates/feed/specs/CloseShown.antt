@@ -7,8 +7,8 @@ use Prim.Native.Nat.{ℕ, _+_, _*_, _<_}
 use lib.ListN.{getD}
 use Rattle.bits.specs.Bit.{bit}
 use Rattle.cycle.specs.Size.{jetCount}
+use Rattle.cycle.specs.Answers.{writesReport}
 use Rattle.cycle.specs.Close.{Third, EverThird}
-use Rattle.cycle.specs.declared.answer.Answer.the-variants.{Taken}
 use Rattle.cycle.specs.declared.map.Masks.{Masks}
 use Rattle.feed.specs.Heard.{Heard, jetHeard, jetHistory}
 use Rattle.feed.specs.Calls.{Made, answerOf, reportIn}
@@ -17,10 +17,10 @@ use Rattle.feed.specs.Calls.{Made, answerOf, reportIn}
 abbrev pub Shows : List Masks → ℕ → ℕ → Made → List Made → Type 0
 Shows masks s i c cs = bit i (getD (reportIn masks c cs) (7 + 5 * s + 4) 0) ≡ true
 
--- no report of these calls that answers 'taken' has it
+-- no report of these calls has it, also none that answers 1 to 4
 abbrev pub NeverShown : List Masks → ℕ → ℕ → List Made → Type 0
 NeverShown masks s i [] = Unit {0}
-NeverShown masks s i (c ∷ cs) = (answerOf masks c cs ≡ Taken → Shows masks s i c cs → ⊥) × NeverShown masks s i cs
+NeverShown masks s i (c ∷ cs) = (writesReport (answerOf masks c cs) ≡ true → Shows masks s i c cs → ⊥) × NeverShown masks s i cs
 
 -- at the record t, taken after ts, one of the manifold's jets "has been bad at that and the two major cycles before", as demand 3 words it
 pub record ThirdNow (mask s i : ℕ) (t : Heard) (ts : List Heard) : Type 0 where

@@ -19,6 +19,7 @@ use Rattle.feed.specs.Heard.{Heard, reachedBy, jetHistory, bankHeard}
 -- quantities (2 each)." Each bit of it by the run of `Jets` from fresh over the jet's own values in the records taken.
 pub record Tells (masks : List Masks) (a : Answer) (ts : List Heard) (report : List ℕ) : Type 0 where
   pub long : length report ≡ 34
+  pub byte : (k : ℕ) → getD report k 0 < 256
   pub mark : (getD report 0 0 ≡ 0x52) × (getD report 1 0 ≡ 0x52)
   pub answer : getD report 2 0 ≡ numberOf a
   pub number : four report 3 ≡ reachedBy ts

@@ -10,7 +10,7 @@ use native.Mathlib.Bridge.{le-by-compare, IsLe}
 use lib.ListN.{getD, take}
 use Rattle.bits.specs.Bit.{bit, wordBits}
 use Rattle.bits.proofs.Yes.{not-both, and-both}
-use Rattle.cycle.specs.Answers.{isTaken, writesReport}
+use Rattle.cycle.specs.Answers.{writesReport}
 use Rattle.cycle.specs.Proper.{FitMap}
 use Rattle.cycle.specs.declared.answer.Answer.the-variants.{Taken}
 use Rattle.feed.specs.Size.{reportLength}
@@ -46,25 +46,25 @@ night-fits (suc (suc (suc (suc s)))) i l m = absurd (omega arith)
 
 -- ---- the reports
 
--- in what a call gave back: is the answer 0, and the close bit of manifold 0 of string 0
-abbrev takenIn : Result → Bool
-takenIn r = isTaken (r .outcome .answer)
+-- in what a call gave back: is a report written, and the close bit of manifold 0 of string 0
+abbrev writtenIn : Result → Bool
+writtenIn r = writesReport (r .outcome .answer)
 
 abbrev closeIn : Result → Bool
 closeIn r = bit 0 (getD (take reportLength (r .outbox)) (7 + 5 * 0 + 4) 0)
 
 abbrev Unseen : List Exchanged → Type 0
 Unseen [] = Unit {0}
-Unseen (x ∷ xs) = ((takenIn (x .result) && closeIn (x .result)) ≡ false) × Unseen xs
+Unseen (x ∷ xs) = ((writtenIn (x .result) && closeIn (x .result)) ≡ false) × Unseen xs
 
 never-by : (xs : List Exchanged) → Given xs → Unseen xs → NeverShown nightMap 0 0 (madeOf xs)
 never-by [] g u = tt
 never-by (x ∷ xs) g u = (λ a s. by a s, never-by xs (g .1) (u .1))
   where
-    by : answerOf nightMap (handing (x .piece)) (madeOf xs) ≡ Taken → Shows nightMap 0 0 (handing (x .piece)) (madeOf xs) → ⊥
+    by : writesReport (answerOf nightMap (handing (x .piece)) (madeOf xs)) ≡ true → Shows nightMap 0 0 (handing (x .piece)) (madeOf xs) → ⊥
     by a s =
-        not-both (takenIn (x .result) && closeIn (x .result))
-        (and-both (takenIn (x .result)) (closeIn (x .result)) (ap takenIn (sym (g .0)) ∙ ap isTaken a) (ap closeIn (sym (g .0)) ∙ s))
+        not-both (writtenIn (x .result) && closeIn (x .result))
+        (and-both (writtenIn (x .result)) (closeIn (x .result)) (ap writtenIn (sym (g .0)) ∙ a) (ap closeIn (sym (g .0)) ∙ s))
         (u .0)
 
 pub feed-close : Appears feedTo50

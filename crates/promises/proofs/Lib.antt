@@ -13,4 +13,5 @@ pub mod InstanceGiven
 pub mod InstanceFinished
 pub mod InstanceCut
 pub mod InstanceClose
+pub mod SmallRules
 pub mod Promises

@@ -4,28 +4,22 @@
 -- Assumes nothing.
 use mathlib.Core.Path.{_≡_, sym, _∙_}
 use mathlib.Core.Bool.{true, false}
-use mathlib.Core.List.{List, _∷_, _++_}
-use mathlib.Core.Logic.{_⊎_, _↔_}
+use mathlib.Core.List.{List, [], _∷_, _++_}
+use mathlib.Core.Logic.{_↔_}
 use Prim.Native.Nat.{ℕ, _+_, _*_, _/_, _<_, _≤_}
-use lib.ListN.{length, getD}
+use lib.ListN.{length, getD, take}
 use Rattle.cycle.specs.Size.{stringCount, manifoldCount}
 use Rattle.cycle.specs.Answers.{writesReport}
-use Rattle.cycle.specs.Numbers.{missedMajor}
-use Rattle.cycle.specs.Leak.{leaks}
-use Rattle.cycle.specs.Banks.{weighed}
 use Rattle.cycle.specs.Jets.{JetRecord, reached, run, asksAt}
 use Rattle.cycle.specs.Hall.{masksOf}
 use Rattle.cycle.specs.Map.{refused}
 use Rattle.cycle.specs.Proper.{FitMap}
 use Rattle.cycle.specs.Close.{Rising, Third}
 use Rattle.cycle.specs.declared.answer.Answer.{Answer}
-use Rattle.cycle.specs.declared.answer.Answer.the-variants.{Taken}
+use Rattle.cycle.specs.declared.answer.Answer.the-variants.{Taken, NothingSettled}
 use Rattle.cycle.specs.declared.map.Masks.{Masks}
-use Rattle.cycle.specs.declared.values.Quantities.{Quantities}
-use Rattle.cycle.proofs.Balance.{Weighed, weighed-exactly}
-use Rattle.cycle.proofs.Leaks.{leaks-exactly}
-use Rattle.cycle.proofs.Numbers.{missed-is-between}
 use Rattle.cycle.proofs.Close.{asks-third}
+use Rattle.feed.specs.Bytes.{four}
 use Rattle.feed.specs.Settled.{recordIn}
 use Rattle.feed.specs.Answered.{Condition, Leaves, Read, Starts}
 use Rattle.feed.specs.Call.{holds, startedOver, call, runs}
@@ -66,6 +60,10 @@ one-answer m piece out a b x y = sym (answers m piece out a .1 x) ∙ answers m 
 pub leaves : (m : Monitor) (piece out : List ℕ) → Leaves ((call m piece out) .outcome .answer) m piece out (call m piece out)
 leaves = call-leaves
 
+-- "A state handed in that claims more than 614 held bytes is read as holding none"
+pub holds-exactly : (m : Monitor) → (614 < m .count → holds m ≡ []) × (m .count ≤ 614 → holds m ≡ take (m .count) (m .held))
+holds-exactly = starting.holds-exactly
+
 -- on every answer but 5, what the reader drops, settles and holds, and where it stops: whole records only, and no whole one is dropped
 pub reads : (m : Monitor) (piece out : List ℕ) → 34 ≤ length out → Read m piece (call m piece out)
 reads = call-reads
@@ -76,6 +74,13 @@ starts = starting.starts-exactly
 
 pub starts-from : (l : List ℕ) → length l ≡ 64 → startedFrom l ≡ startedOver (masksOfBytes stringCount l)
 starts-from = starting.starts-from
+
+pub no-map : (l : List ℕ) → (length l ≡ 64 → ⊥) → (startedFrom l) .answer ≡ NothingSettled
+no-map = starting.no-map
+
+pub mask-at : (l : List ℕ) (s i : ℕ) → s < stringCount → i < manifoldCount
+    → getD (masksOf (masksOfBytes stringCount l) s) i 0 ≡ four l (16 * s + 4 * i)
+mask-at = starting.mask-at
 
 pub bytes-fit : (l : List ℕ) → ((i : ℕ) → getD l i 0 < 256) → FitMap (masksOfBytes stringCount l)
 bytes-fit = starting.bytes-fit
@@ -131,19 +136,8 @@ module _ (masks : List Masks) (words : FitMap masks) (accepted : refused stringC
         → NeverShown masks s i cs ↔ (ThirdEver (getD (masksOf masks s) i 0) s i (takenRecords masks cs) → ⊥)
     close-never = close.close-never masks words accepted s i string manifold
 
--- ---- The small rules that jets and packed words share, in plain arithmetic
-
-pub leaks-below-64 : (fuel oxidizer : ℕ) → (leaks fuel oxidizer ≡ true) ↔ ((fuel < 64) ⊎ (oxidizer < 64))
-leaks-below-64 = leaks-exactly
-
-pub balance-by-16 : (q : Quantities) → Weighed (q .fuel) (q .oxidizer) (weighed q)
-balance-by-16 = weighed-exactly
-
-pub missed-is-multiple : (old new : ℕ) → (missedMajor old new ≡ true) ↔ ((k : ℕ) × (old < k * 25) × (k * 25 < new))
-missed-is-multiple = missed-is-between
+-- ---- The local law of the close
 
 -- a jet asks for the close at a taken record if and only if the record is the third of three as demand 3 words it
 pub jet-asks : (h : List JetRecord) (r : JetRecord) → Rising (r ∷ h) → (asksAt (reached h) r (run h) ≡ true) ↔ Third r h
 jet-asks = asks-third
-
--- Beside this file: one outcome for every public function (Unique*), starred nights (Nights), premises that are met (Instance*)

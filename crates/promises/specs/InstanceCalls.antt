@@ -113,8 +113,8 @@ abbrev pub threeReports : List (List ℕ)
 threeReports =
     reportOfString 0 25 0x00000000 0x00 ∷ reportOfString 0 50 0x00000002 0x00 ∷ reportOfString 0 75 0x00000002 0x01 ∷ []
 
--- after the calls: the answer to record 75 is 0, its report has the close bit of manifold 0 of string 0, and no report before it that
--- answers 0 has it
+-- after the calls: the answer to record 75 is 0, its report has the close bit of manifold 0 of string 0, and no report before it
+-- has it
 pub record Appears (xs : List Exchanged) : Type 0 where
   pub answer : answerOf nightMap (handing (majorBytes 75)) (madeOf xs) ≡ Taken
   pub shown : Shows nightMap 0 0 (handing (majorBytes 75)) (madeOf xs)
