@@ -41,4 +41,7 @@ def main():
         before, last = now, n
 
 
-main()
+try:
+    main()
+except BrokenPipeError:  # whoever reads has seen enough
+    sys.stderr.close()
