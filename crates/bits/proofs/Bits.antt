@@ -8,7 +8,7 @@ use native.Mathlib.Numerals.{one-add}
 use native.Mathlib.Omega.{arith}
 use lib.Dec.{eqb, eqb·zero-suc, eqb·suc-zero, eqb·suc-suc}
 use lib.Arith.{lt-one}
-use lib.Pow.{shr-shr, pow-pos}
+use lib.Pow.{shr-shr, pow-pos, field, mod-mod-pow}
 use lib.Bits.{bitAnd, bitOr, bitXor, and-shr, and-mod, or-shr, or-mod, xor-shr, xor-mod, and-le-l, xor-lt}
 use Rattle.bits.specs.Bit.{bit, without}
 use Rattle.bits.proofs.Yes.{not-both}
@@ -82,6 +82,15 @@ bit-past (suc k) zero a h l = absurd (not-suc-le-zero l)
 bit-past (suc k) (suc j) a h l = bit-suc j a ∙ bit-past k j (a / 2) (half k h) (le-of-suc-le-suc l)
 
 -- 2 ^ n has bit n and no other
+-- the lowest bits of a number are those of its remainder
+pub bit-mod : (k j a : ℕ) → j < k → bit j (a % 2 ^ k) ≡ bit j a
+unfolding bit
+bit-mod k j a l =
+    let i : ℕ = k - j - 1 in
+    let e : k ≡ (i + 1) + j = omega arith in
+    ap (λ (x : ℕ). eqb x 1)
+    (ap (λ (m : ℕ). a % 2 ^ m / 2 ^ j % 2) e ∙ ap (λ (x : ℕ). x % 2) (field a (i + 1) j) ∙ mod-mod-pow (a / 2 ^ j) i 1)
+
 pub bit-one : (j n : ℕ) → bit j (2 ^ n) ≡ eqb j n
 bit-one zero zero = bit-low 1
 bit-one zero (suc n) =

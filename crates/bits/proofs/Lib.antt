@@ -1,3 +1,4 @@
 pub mod Yes
 pub mod Bits
 pub mod Words
+pub mod Every

@@ -1,17 +1,17 @@
 -- Words put together from their bits, and words that have some bit: each law once for all positions. Assumes nothing.
 use mathlib.Core.Path.{_≡_, refl, sym, ap, ap₂, _∙_}
 use mathlib.Core.Bool.{Bool, true, false, not, _&&_, _||_}
-use mathlib.Core.Logic.{_⊎_, inl, inr, ⊎-elim, _↔_}
-use Prim.Native.Nat.{ℕ, zero, suc, _^_, _≤_, _<_}
+use mathlib.Core.Logic.{⊎-elim}
+use Prim.Native.Nat.{ℕ, zero, suc, _^_, _<_}
 use native.Mathlib.Nat.{not-suc-le-zero, le-of-suc-le-suc, lt-of-le-of-lt, lt-trans, le-refl, le-of-eq, eq-or-lt-of-le}
 use native.Mathlib.Omega.{arith}
-use lib.Dec.{eqb, ltb}
+use lib.Dec.{eqb}
 use lib.Pow.{pow-pos, pow-lt}
 use lib.Bits.{bitAnd, or-lt, and-le-l}
 use borrow.Author.Tests.{eq-eqb, ne-eqb, lt-ltb}
 use Rattle.bits.specs.Bit.{wordBits, bit, meets, plusBit, withBit, pack, any}
-use Rattle.bits.proofs.Yes.{not-both, and-both, and-left, and-right, and-true, and-false, or-false, or-cases, or-left, or-right}
-use Rattle.bits.proofs.Yes.{or-none-left, or-none-right, same-yes}
+use Rattle.bits.proofs.Yes.{not-both, and-true, and-false, or-false, or-cases, or-left, or-right}
+use Rattle.bits.proofs.Yes.{same-yes}
 use Rattle.bits.proofs.Bits.{bit-and, bit-or, bit-none, bit-past, bit-one, bit-ext}
 
 -- ---- one bit more

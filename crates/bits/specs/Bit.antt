@@ -39,3 +39,8 @@ pack (suc n) f = plusBit (pack n f) n (f n)
 unfoldable pub any : ℕ → (ℕ → Bool) → Bool
 any zero f = false
 any (suc n) f = any n f || f n
+
+-- is f true everywhere below n
+unfoldable pub every : ℕ → (ℕ → Bool) → Bool
+every zero f = true
+every (suc n) f = every n f && f n

@@ -11,7 +11,7 @@
 ghost use mathlib.Core.Path.{_≡_};
 ghost use mathlib.Core.Bool.{true};
 ghost use mathlib.Core.List.{_∷_, _++_};
-ghost use Prim.Native.Nat.{_<_, _≤_};
+ghost use Prim.Native.Nat.{_%_, _<_, _≤_};
 ghost use lib.ListN.{length};
 ghost use Rattle.cycle.specs.Answers.{numberOf};
 ghost use Rattle.feed.specs.Bytes.{two, four, inTwo, inFour};
@@ -19,7 +19,10 @@ ghost use Rattle.feed.specs.Call.{call};
 ghost use Rattle.feed.specs.Masks.{startedFrom};
 ghost use Rattle.calls.specs.Handed.{handedIn, OneCall};
 use cycle::answer::Answer;
-use feed::bytes::wide32;
+use feed::bytes::put_four;
+use feed::bytes::put_two;
+use feed::bytes::read_four;
+use feed::bytes::read_two;
 use feed::call::Monitor;
 use feed::call::Outcome;
 use feed::size::MAP;
@@ -57,38 +60,39 @@ fn wide(x: u8) -> usize
 fn two_of(b: &[u8; 2]) -> usize
     ensures { λ r. ⌜ (r ≡ two (now (b .entry)) 0) × (r < 65536) ⌝ }
 {
-    wide(b[0]) * 256 + wide(b[1])
+    read_two(b, 0) as usize
 }
 
 fn four_of(b: &[u8; 4]) -> u32
     ensures { λ r. ⌜ r ≡ four (now (b .entry)) 0 ⌝ }
 {
-    wide32(b[0]) * 16777216 + wide32(b[1]) * 65536 + wide32(b[2]) * 256 + wide32(b[3])
+    read_four(b, 0)
+}
+
+// The low 16 bits.
+fn low_two(x: usize) -> u16
+    ensures { λ r. ⌜ r ≡ x % 65536 ⌝ }
+{
+    (x % 65536) as u16
 }
 
 // The answer's number and the bytes used.
 fn front(answer: Answer, used: usize) -> [u8; 3]
     ensures { λ r. ⌜ r ≡ numberOf answer ∷ inTwo used ⌝ }
 {
-    [
-        answer.number(),
-        (used / 256 % 256) as u8,
-        (used % 256) as u8,
-    ]
+    let mut b = [answer.number(), 0, 0];
+    put_two(&mut b[1..3], low_two(used));
+    b
 }
 
 // The cycle number and the low 16 bits of the count.
 fn numbers(n: u32, count: usize) -> [u8; 6]
     ensures { λ r. ⌜ r ≡ inFour n ++ inTwo count ⌝ }
 {
-    [
-        (n / 16777216 % 256) as u8,
-        (n / 65536 % 256) as u8,
-        (n / 256 % 256) as u8,
-        (n % 256) as u8,
-        (count / 256 % 256) as u8,
-        (count % 256) as u8,
-    ]
+    let mut b = [0u8; 6];
+    put_four(&mut b[0..4], n);
+    put_two(&mut b[4..6], low_two(count));
+    b
 }
 
 // Reads the next n bytes to the front of the buffer; no, where they do not fit or the input ends before.

@@ -12,9 +12,9 @@ use Rattle.cycle.specs.Size.{majorEvery}
 use Rattle.cycle.specs.declared.jet.JetOn.{JetOn}
 use Rattle.cycle.specs.declared.jet.JetState.{JetState}
 use Rattle.cycle.specs.Numbers.{isMajor, missedMajor}
-use Rattle.cycle.specs.Jets.{JetRecord, noOn, isBad, minorSteps, reached, run}
+use Rattle.cycle.specs.Jets.{JetRecord, noOn, isBad, minorSteps, afterRequests, reached, run}
 use Rattle.cycle.specs.Close.{Rising, reenableInForce}
-use Rattle.cycle.proofs.CloseSteps.{minor-cycle, major-cycle, slots-after-loss, slots-after-miss, slots-else, afterRequests}
+use Rattle.cycle.proofs.CloseSteps.{minor-cycle, major-cycle, slots-after-loss, slots-after-miss, slots-else}
 use Rattle.cycle.proofs.CloseSteps.{major-over, major-newest, major-recheck, run-lost}
 use Rattle.cycle.proofs.CloseSpans.{some-reached, majorUpTo, majorBelow, BadOnce, BadTwice, Again}
 use Rattle.cycle.proofs.CloseSpans.{once-minor, once-major, twice-minor, twice-major}

@@ -7,7 +7,7 @@ use Rattle.cycle.specs.declared.jet.JetOn.{JetOn}
 use Rattle.cycle.specs.declared.jet.JetState.{JetState}
 use Rattle.cycle.specs.Numbers.{isMajor, missedCycle, missedMajor}
 use Rattle.cycle.specs.Jets.{JetRecord, noOn, pathLost, recovered, gapped, offFailure, valveMoved, remembered, requested}
-use Rattle.cycle.specs.Jets.{isBad, asks, onFailure, kept, minorSteps, majorSteps, cycle, asksAt, reached, run}
+use Rattle.cycle.specs.Jets.{isBad, asks, onFailure, kept, minorSteps, afterRequests, majorSteps, cycle, asksAt, reached, run}
 
 -- ---- which steps a record takes
 
@@ -21,7 +21,7 @@ unfolding cycle
 minor-cycle old r s p m = rw (p, m)
 
 pub major-cycle : (old : ℕ) (r : JetRecord) (s : JetState) → r .path ≡ false → isMajor (r .n) ≡ true →
-    cycle old r s ≡ majorSteps r (minorSteps old r s)
+    cycle old r s ≡ majorSteps old r s
 unfolding cycle
 major-cycle old r s p m = rw (p, m)
 
@@ -84,10 +84,6 @@ slots-else old r s l m = minor-on old r s ∙ rw (m, recovered-otherwise s l)
 
 -- ---- steps 5 to 8
 
--- the jet after step 5: what `asks` and `onFailure` read
-abbrev pub afterRequests : ℕ → JetRecord → JetState → JetState
-afterRequests old r s = requested (r .inhibit) (r .reenable) (minorSteps old r s)
-
 requested-keeps : (i e : Bool) (s : JetState) → (requested i e s .on ≡ s .on) × (requested i e s .lost ≡ s .lost)
 unfolding requested
 requested-keeps true true s = (refl, refl)
@@ -98,20 +94,20 @@ requested-keeps false false s = (refl, refl)
 requests-keep-slots : (old : ℕ) (r : JetRecord) (s : JetState) → afterRequests old r s .on ≡ minorSteps old r s .on
 requests-keep-slots old r s = requested-keeps (r .inhibit) (r .reenable) (minorSteps old r s) .0
 
-major-lost : (old : ℕ) (r : JetRecord) (s : JetState) → majorSteps r (minorSteps old r s) .lost ≡ false
+major-lost : (old : ℕ) (r : JetRecord) (s : JetState) → majorSteps old r s .lost ≡ false
 unfolding majorSteps kept onFailure
 major-lost old r s = requested-keeps (r .inhibit) (r .reenable) (minorSteps old r s) .1 ∙ minor-lost old r s
 
-pub major-over : (old : ℕ) (r : JetRecord) (s : JetState) → majorSteps r (minorSteps old r s) .over ≡ afterRequests old r s .over
+pub major-over : (old : ℕ) (r : JetRecord) (s : JetState) → majorSteps old r s .over ≡ afterRequests old r s .over
 unfolding majorSteps kept onFailure
 major-over old r s = refl
 
-pub major-newest : (old : ℕ) (r : JetRecord) (s : JetState) → majorSteps r (minorSteps old r s) .on .newest ≡ isBad r
+pub major-newest : (old : ℕ) (r : JetRecord) (s : JetState) → majorSteps old r s .on .newest ≡ isBad r
 unfolding majorSteps kept onFailure
 major-newest old r s = refl
 
 pub major-recheck : (old : ℕ) (r : JetRecord) (s : JetState) →
-    majorSteps r (minorSteps old r s) .on .recheck
+    majorSteps old r s .on .recheck
     ≡ (isBad r && minorSteps old r s .on .newest && not (afterRequests old r s .over .reenable))
 unfolding majorSteps kept onFailure
 major-recheck old r s = rw (requests-keep-slots old r s)

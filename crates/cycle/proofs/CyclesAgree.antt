@@ -11,12 +11,12 @@ use Rattle.bits.specs.Bit.{wordBits, bit, without, any}
 use Rattle.bits.proofs.Bits.{bit-and, bit-or}
 use Rattle.bits.proofs.Words.{pack-lt, pack-at, meets-is, any-same}
 use Rattle.cycle.specs.Size.{jetCount}
-use Rattle.cycle.specs.Map.{mapped}
+use Rattle.cycle.specs.Map.{inMask, mapped}
 use Rattle.cycle.specs.Numbers.{missedCycle, missedMajor}
 use Rattle.cycle.specs.Jets as jets
 use Rattle.cycle.specs.Words as words
-use Rattle.cycle.specs.Views.{jetOf, jetSays}
-use Rattle.cycle.specs.Proper.{inMask, Disjoint, ProperString}
+use Rattle.cycle.specs.Inside.Views.{jetOf, jetSays}
+use Rattle.cycle.specs.Inside.Proper.{Disjoint, ProperString}
 use Rattle.cycle.specs.declared.jet.JetState.{JetState}
 use Rattle.cycle.specs.declared.string.StringState.{StringState}
 use Rattle.cycle.specs.declared.values.Sample.{Sample}
@@ -26,13 +26,17 @@ use Rattle.cycle.proofs.ProperKept.{recovered-proper, gapped-proper, of
 use Rattle.cycle.proofs.StepsAgree.{recovered-agrees, gapped-agrees, off-failure-agrees, rechecked-agrees}
 use Rattle.cycle.proofs.StepsAgree.{on-failure-agrees, kept-agrees}
 use Rattle.cycle.proofs.ManifoldsAgree.{manifolds-agree}
-use Rattle.cycle.proofs.RecordsAgree.{afterRequests, badOf, heard, requests-heard, bad-agrees, asked}
+use Rattle.cycle.proofs.RecordsAgree.{heard, requests-heard, bad-agrees, asked}
+
+-- steps 1 to 4, with the gap told by the two cycle numbers
+abbrev pub afterMinor : ℕ → List ℕ → Sample → ℕ → ℕ → StringState → StringState
+afterMinor m masks x old n s = words.minorSteps m masks x (missedCycle old n) (missedMajor old n) s
 
 -- ---- the jet
 
 module _ (m i j : ℕ) (masks : List ℕ) (x : Sample) (q : Requests) (t : Temperatures) (old n : ℕ) (path : Bool) (s : StringState)
     (d : Disjoint m masks) (below : i < m) (stands : inMask masks i j) (p : ProperString m masks s) where
-  pub minor-steps-agree : jetOf i j (words.minorSteps m masks x (missedCycle old n) (missedMajor old n) s)
+  pub minor-steps-agree : jetOf i j (afterMinor m masks x old n s)
       ≡ jets.minorSteps old (jetSays n path i j x q t) (jetOf i j s)
   unfolding words.minorSteps jets.minorSteps
   minor-steps-agree =
@@ -51,68 +55,22 @@ module _ (m i j : ℕ) (masks : List ℕ) (x : Sample) (q : Requests) (t : Tempe
       (gapped-agrees i j gap missed a ∙ ap (jets.gapped gap missed) (recovered-agrees i j s)))
 
   pub major-steps-agree : j < jetCount
-      → jetOf i j (words.majorSteps m masks x (words.leakWord t) q s) ≡ jets.majorSteps (jetSays n path i j x q t) (jetOf i j s)
+      → jetOf i j (words.majorSteps m masks x (words.leakWord t) q (afterMinor m masks x old n s))
+      ≡ jets.majorSteps old (jetSays n path i j x q t) (jetOf i j s)
   unfolding words.majorSteps jets.majorSteps
   major-steps-agree inWord =
-      let bad : ℕ = badOf m masks x (words.leakWord t) in
-      let r : StringState = afterRequests m masks q s in
+      let a : StringState = afterMinor m masks x old n s in
+      let bad : ℕ = words.badOf m masks x (words.leakWord t) in
+      let r : StringState = words.afterRequests m masks q a in
       let c : StringState = words.rechecked m masks bad r in
       kept-agrees i j (words.onFailure bad c)
       ∙ ap jets.kept
       (on-failure-agrees i j bad c
       ∙ ap₂ jets.onFailure (bad-agrees m i j masks below stands x q t n path inWord)
-      (rechecked-agrees i j m masks bad r ∙ requests-heard m i j masks below stands q s))
+      (rechecked-agrees i j m masks bad r ∙ requests-heard m i j masks below stands q a
+      ∙ ap (jets.requested (bit j (q .inhibit)) (bit j (q .reenable))) minor-steps-agree))
 
 -- ---- the close bits
-
--- a close bit is a manifold's
-pub major-steps-fit : (m : ℕ) (masks : List ℕ) (x : Sample) (q : Requests) (t : Temperatures) (s : StringState) → s .close < 2 ^ m
-    → (words.majorSteps m masks x (words.leakWord t) q s) .close < 2 ^ m
-unfolding words.majorSteps words.kept words.onFailure words.rechecked words.requested words.closeBits
-major-steps-fit m masks x q t s l =
-    let after : StringState = afterRequests m masks q s in
-    let again : ℕ = without (badOf m masks x (words.leakWord t)) (after .over .reenable) in
-    or-lt m (s .close) (words.closeBits m masks (after .on .recheck) again) l
-    (pack-lt m (λ i. words.asksClose (getD masks i 0) (after .on .recheck) again))
-
-pub major-steps-close : (m i : ℕ) (masks : List ℕ) (x : Sample) (q : Requests) (t : Temperatures) (n : ℕ) (path : Bool) (s : StringState)
-    → Disjoint m masks → i < m → ProperString m masks s
-    → bit i ((words.majorSteps m masks x (words.leakWord t) q s) .close)
-    ≡ (bit i (s .close)
-    || any jetCount
-    (λ j. bit j (getD masks i 0)
-    && jets.asks (jets.isBad (jetSays n path i j x q t))
-    (jets.requested (bit j (q .inhibit)) (bit j (q .reenable)) (jetOf i j s))))
-unfolding words.majorSteps words.kept words.onFailure words.rechecked words.requested words.closeBits
-major-steps-close m i masks x q t n path s d below p =
-    bit-or i (s .close) (words.closeBits m masks recheck again)
-    ∙ ap (λ (b : Bool). bit i (s .close) || b)
-    (pack-at m (λ k. words.asksClose (getD masks k 0) recheck again) i below
-    ∙ meets-is wordBits (bitAnd mask recheck) again (lt-of-le-of-lt (and-le-l mask recheck) (d .fits i below))
-    ∙ any-same jetCount (λ j. bit j (bitAnd mask recheck) && bit j again) (λ j. bit j mask && asks j)
-    (λ j l. ap (λ (b : Bool). b && bit j again) (bit-and j mask recheck) ∙ by j l (bit j mask) refl))
-  where
-    mask : ℕ
-    mask = getD masks i 0
-
-    after : StringState
-    after = afterRequests m masks q s
-
-    recheck : ℕ
-    recheck = after .on .recheck
-
-    again : ℕ
-    again = without (badOf m masks x (words.leakWord t)) (after .over .reenable)
-
-    asks : ℕ → Bool
-    asks j =
-        jets.asks (jets.isBad (jetSays n path i j x q t))
-        (jets.requested (bit j (q .inhibit)) (bit j (q .reenable)) (jetOf i j s))
-
-    by : (j : ℕ) → j < jetCount → (b : Bool) → bit j mask ≡ b
-        → ((bit j mask && bit j recheck) && bit j again) ≡ (bit j mask && asks j)
-    by j l true e = rw e (asked m i j masks below e x q t n path l s)
-    by j l false e = rw e
 
 recovered-close : (s : StringState) → (words.recovered s) .close ≡ s .close
 unfolding words.recovered
@@ -135,3 +93,58 @@ pub minor-steps-close : (m : ℕ) (masks : List ℕ) (x : Sample) (gap missed : 
     → (words.minorSteps m masks x gap missed s) .close ≡ s .close
 unfolding words.minorSteps words.manifolds words.offFailure
 minor-steps-close m masks x gap missed s = gapped-close gap missed (words.recovered s) ∙ recovered-close s
+
+-- a close bit is a manifold's
+pub major-steps-fit : (m : ℕ) (masks : List ℕ) (x : Sample) (q : Requests) (t : Temperatures) (s : StringState) → s .close < 2 ^ m
+    → (words.majorSteps m masks x (words.leakWord t) q s) .close < 2 ^ m
+unfolding words.majorSteps words.kept words.onFailure words.rechecked words.requested words.closeBits
+major-steps-fit m masks x q t s l =
+    let after : StringState = words.afterRequests m masks q s in
+    let again : ℕ = without (words.badOf m masks x (words.leakWord t)) (after .over .reenable) in
+    or-lt m (s .close) (words.closeBits m masks (after .on .recheck) again) l
+    (pack-lt m (λ i. words.asksClose (getD masks i 0) (after .on .recheck) again))
+
+pub major-steps-close : (m i : ℕ) (masks : List ℕ) (x : Sample) (q : Requests) (t : Temperatures) (old n : ℕ) (path : Bool)
+    (s : StringState) → Disjoint m masks → i < m → ProperString m masks s
+    → bit i ((words.majorSteps m masks x (words.leakWord t) q (afterMinor m masks x old n s)) .close)
+    ≡ (bit i (s .close)
+    || any jetCount
+    (λ j. bit j (getD masks i 0)
+    && jets.asks (jets.isBad (jetSays n path i j x q t)) (jets.afterRequests old (jetSays n path i j x q t) (jetOf i j s))))
+unfolding words.majorSteps words.kept words.onFailure words.rechecked words.requested words.closeBits
+major-steps-close m i masks x q t old n path s d below p =
+    bit-or i (a .close) (words.closeBits m masks recheck again)
+    ∙ ap₂ (λ (b c : Bool). b || c) (ap (bit i) (minor-steps-close m masks x (missedCycle old n) (missedMajor old n) s))
+    (pack-at m (λ k. words.asksClose (getD masks k 0) recheck again) i below
+    ∙ meets-is wordBits (bitAnd mask recheck) again (lt-of-le-of-lt (and-le-l mask recheck) (d .fits i below))
+    ∙ any-same jetCount (λ j. bit j (bitAnd mask recheck) && bit j again) (λ j. bit j mask && asks j)
+    (λ j l. ap (λ (b : Bool). b && bit j again) (bit-and j mask recheck) ∙ by j l (bit j mask) refl))
+  where
+    mask : ℕ
+    mask = getD masks i 0
+
+    a : StringState
+    a = afterMinor m masks x old n s
+
+    after : StringState
+    after = words.afterRequests m masks q a
+
+    recheck : ℕ
+    recheck = after .on .recheck
+
+    again : ℕ
+    again = without (words.badOf m masks x (words.leakWord t)) (after .over .reenable)
+
+    asksFrom : ℕ → JetState → Bool
+    asksFrom j y = jets.asks (jets.isBad (jetSays n path i j x q t)) (jets.requested (bit j (q .inhibit)) (bit j (q .reenable)) y)
+
+    asks : ℕ → Bool
+    asks j = asksFrom j (jets.minorSteps old (jetSays n path i j x q t) (jetOf i j s))
+
+    by : (j : ℕ) → j < jetCount → (b : Bool) → bit j mask ≡ b
+        → ((bit j mask && bit j recheck) && bit j again) ≡ (bit j mask && asks j)
+    by j l true e =
+        rw e
+        (asked m i j masks below e x q t n path l a
+        ∙ ap (asksFrom j) (minor-steps-agree m i j masks x q t old n path s d below e p))
+    by j l false e = rw e

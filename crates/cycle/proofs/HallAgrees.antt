@@ -4,23 +4,22 @@ use mathlib.Core.Path.{_≡_, refl, sym, ap, ap₂, _∙_}
 use mathlib.Core.Bool.{Bool, true, false, not, _&&_, _||_}
 use mathlib.Core.List.{List}
 use Prim.Native.Nat.{ℕ, _^_, _<_}
-use lib.ListN.{length, getD}
+use lib.ListN.{getD}
 use Rattle.bits.specs.Bit.{bit, any}
 use Rattle.bits.proofs.Yes.{and-false}
 use Rattle.cycle.specs.Size.{stringCount, jetCount, manifoldCount, moduleCount}
-use Rattle.cycle.specs.Numbers.{isMajor, missedCycle, missedMajor}
 use Rattle.cycle.specs.Jets as jets
 use Rattle.cycle.specs.Words.{minorCycle, majorCycle}
 use Rattle.cycle.specs.Banks.{noBank}
 use Rattle.cycle.specs.Records.{Record, minor, major, majorKind}
-use Rattle.cycle.specs.Hall.{masksOf, sampleOf, noTemperatures, noRequests, minorStrings, taken}
-use Rattle.cycle.specs.Views.{jetOf, stringOf, jetRecord}
-use Rattle.cycle.specs.Proper.{inMask, Disjoint, ProperString, ProperHall}
-use Rattle.cycle.specs.Runs.{bankBy}
+use Rattle.cycle.specs.Map.{masksOf, inMask}
+use Rattle.cycle.specs.Hall.{sampleOf, noTemperatures, noRequests, minorStrings, taken}
+use Rattle.cycle.specs.Hall.{stringOf}
+use Rattle.cycle.specs.Inside.Views.{jetOf, jetRecord}
+use Rattle.cycle.specs.Inside.Proper.{ProperHall}
+use Rattle.cycle.specs.Inside.Runs.{bankBy}
 use Rattle.cycle.specs.declared.number.Next.{Next}
 use Rattle.cycle.specs.declared.string.StringState.{StringState}
-use Rattle.cycle.specs.declared.values.Requests.{Requests}
-use Rattle.cycle.specs.declared.values.Temperatures.{Temperatures}
 use Rattle.cycle.specs.declared.values.Minor.{Minor}
 use Rattle.cycle.specs.declared.values.Major.{Major}
 use Rattle.cycle.specs.declared.hall.Hall.{Hall}

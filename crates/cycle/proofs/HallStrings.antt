@@ -1,24 +1,24 @@
 -- The hall's loops over its strings and modules do to each what its own rule says; a fresh hall is proper and every step keeps it so.
 -- Assumes nothing.
-use mathlib.Core.Path.{_≡_, refl, sym, ap, _∙_}
-use mathlib.Core.Bool.{Bool, true, false}
+use mathlib.Core.Path.{_≡_, sym, ap, _∙_}
+use mathlib.Core.Bool.{Bool, false}
 use mathlib.Core.List.{List}
-use Prim.Native.Nat.{ℕ, _<_, _≤_}
+use Prim.Native.Nat.{ℕ, _<_}
 use native.Mathlib.Omega.{arith}
 use lib.ListN.{length, getD, length-replicate, getD-replicate}
 use Rattle.bits.specs.Bit.{bit}
 use Rattle.bits.proofs.Yes.{not-both}
 use Rattle.bits.proofs.Bits.{bit-none}
 use Rattle.cycle.specs.Size.{stringCount, manifoldCount, moduleCount}
-use Rattle.cycle.specs.Map.{refused}
+use Rattle.cycle.specs.Map.{masksOf, FitMap, refused}
 use Rattle.cycle.specs.Numbers.{judged}
 use Rattle.cycle.specs.Words.{fresh, freshStanding, minorCycle, majorCycle}
 use Rattle.cycle.specs.Banks.{noBank, noQuantities, weighed, weighedAll}
 use Rattle.cycle.specs.Records.{Record, minor, major, majorKind, common}
-use Rattle.cycle.specs.Hall.{pastString, masksOf, sampleOf, noTemperatures, noRequests, freshHall, minorStrings, majorStrings}
+use Rattle.cycle.specs.Hall.{pastString, sampleOf, noTemperatures, noRequests, freshHall, minorStrings, majorStrings}
 use Rattle.cycle.specs.Hall.{taken, steppedBy, stepped}
-use Rattle.cycle.specs.Views.{stringOf}
-use Rattle.cycle.specs.Proper.{FitMap, Disjoint, ProperStanding, ProperString, ProperHall}
+use Rattle.cycle.specs.Hall.{stringOf}
+use Rattle.cycle.specs.Inside.Proper.{ProperStanding, ProperHall}
 use Rattle.cycle.specs.declared.banks.Bank.{Bank}
 use Rattle.cycle.specs.declared.map.Masks.{Masks}
 use Rattle.cycle.specs.declared.number.Next.{Next}
@@ -37,49 +37,38 @@ use Rattle.cycle.proofs.ProperKept.{minor-cycle-proper, major-cycle-pro
 
 module _ (masks : List Masks) (strings : List StringState) (long : length strings ≡ stringCount) where
   module _ (r : Minor) (gap missed : Bool) where
-    turn : ℕ → StringState → StringState
-    turn s x = minorCycle manifoldCount (masksOf masks s) (bit s (r .path)) (sampleOf r s) gap missed x
-
     pub minor-length : length (minorStrings stringCount masks r gap missed strings) ≡ stringCount
-    unfolding minorStrings turn
-    minor-length = each-length turn pastString strings stringCount ∙ long
+    unfolding minorStrings
+    minor-length = each-length _ pastString strings stringCount ∙ long
 
     pub minor-at : (s : ℕ) → s < stringCount
         → getD (minorStrings stringCount masks r gap missed strings) s pastString
         ≡ minorCycle manifoldCount (masksOf masks s) (bit s (r .path)) (sampleOf r s) gap missed (getD strings s pastString)
-    unfolding minorStrings turn
-    minor-at s l = each-at turn pastString strings stringCount s l (omega arith)
+    unfolding minorStrings
+    minor-at s l = each-at _ pastString strings stringCount s l (omega arith)
 
   module _ (r : Major) where
-    major-turn : ℕ → StringState → StringState
-    major-turn s x =
-        majorCycle manifoldCount (masksOf masks s) (bit s (r .minor .path)) (sampleOf (r .minor) s)
-        (getD (r .temperatures) s noTemperatures) (getD (r .requests) s noRequests) x
-
     pub major-length : length (majorStrings stringCount masks r strings) ≡ stringCount
-    unfolding majorStrings major-turn
-    major-length = each-length major-turn pastString strings stringCount ∙ long
+    unfolding majorStrings
+    major-length = each-length _ pastString strings stringCount ∙ long
 
     pub major-at : (s : ℕ) → s < stringCount
         → getD (majorStrings stringCount masks r strings) s pastString
         ≡ majorCycle manifoldCount (masksOf masks s) (bit s (r .minor .path)) (sampleOf (r .minor) s)
         (getD (r .temperatures) s noTemperatures) (getD (r .requests) s noRequests) (getD strings s pastString)
-    unfolding majorStrings major-turn
-    major-at s l = each-at major-turn pastString strings stringCount s l (omega arith)
+    unfolding majorStrings
+    major-at s l = each-at _ pastString strings stringCount s l (omega arith)
 
 -- ---- each module by itself
 
 module _ (q : List Quantities) (banks : List Bank) (long : length banks ≡ moduleCount) where
-  weigh : ℕ → Bank → Bank
-  weigh m b = weighed (getD q m noQuantities)
-
   pub weighed-length : length (weighedAll moduleCount q banks) ≡ moduleCount
-  unfolding weighedAll weigh
-  weighed-length = each-length weigh noBank banks moduleCount ∙ long
+  unfolding weighedAll
+  weighed-length = each-length _ noBank banks moduleCount ∙ long
 
   pub weighed-at : (m : ℕ) → m < moduleCount → getD (weighedAll moduleCount q banks) m noBank ≡ weighed (getD q m noQuantities)
-  unfolding weighedAll weigh
-  weighed-at m l = each-at weigh noBank banks moduleCount m l (omega arith)
+  unfolding weighedAll
+  weighed-at m l = each-at _ noBank banks moduleCount m l (omega arith)
 
 -- ---- proper halls
 

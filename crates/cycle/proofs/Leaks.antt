@@ -1,10 +1,10 @@
 -- The leak rule by arithmetic, with document 01's number: a temperature word leaks exactly if it is below 64, a jet if either of its words
 -- does. Assumes nothing.
 use mathlib.Core.Path.{_≡_}
-use mathlib.Core.Bool.{Bool, true, false, not, _&&_, _||_}
+use mathlib.Core.Bool.{true}
 use mathlib.Core.Logic.{_⊎_, inl, inr, ⊎-elim, _↔_}
 use Prim.Native.Nat.{ℕ, _<_}
-use lib.Dec.{ltb, ltb→lt}
+use lib.Dec.{ltb→lt}
 use borrow.Author.Tests.{lt-ltb}
 use Rattle.bits.proofs.Yes.{T-of, or-cases, or-left, or-right}
 use Rattle.cycle.specs.Leak.{cold, leaks}

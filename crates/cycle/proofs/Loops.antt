@@ -12,7 +12,7 @@ use mir.Val.{Fits}
 use Rattle.bits.specs.Bit.{meets, any}
 use Rattle.cycle.specs.Size.{manifoldCount}
 use Rattle.cycle.specs.Each.{each}
-use Rattle.cycle.specs.Map.{pastMasks, mapped, overlap, refused}
+use Rattle.cycle.specs.Map.{masksOf, mapped, overlap, refused}
 use Rattle.cycle.specs.declared.map.Masks.{Masks}
 use Rattle.cycle.proofs.Each.{each-next}
 
@@ -36,6 +36,10 @@ pub turned : {A : Type 0} (f : ℕ → A → A) (d : A) (l : List A) (n : ℕ) (
     → set m n x ≡ each (n + 1) f d l
 turned f d l n m x e q = rw add-one (each-next f d l n m x e q)
 
+-- what a rule gives at the value that was read is what it gives at the one asked for
+pub as-asked : {A B : Type 0} (f : A → B) {read asked : A} {r : B} → r ≡ f read → read ≡ asked → r ≡ f asked
+as-asked f e p = e ∙ ap f p
+
 -- ---- the map's
 
 module _ (words : List ℕ) (i : ℕ) where
@@ -49,6 +53,6 @@ module _ (words : List ℕ) (i : ℕ) where
   overlap-turn e f q = rw (add-one, q, e, f)
 
 pub refused-turn : (masks : List Masks) (s : ℕ) {found b : Bool} → found ≡ refused s masks
-    → b ≡ overlap manifoldCount ((getD masks s pastMasks) .words) → (found || b) ≡ refused (s + 1) masks
+    → b ≡ overlap manifoldCount (masksOf masks s) → (found || b) ≡ refused (s + 1) masks
 unfolding refused any
 refused-turn masks s f q = rw (add-one, q, f)

@@ -1,15 +1,14 @@
 -- The verdict on a record by its distance and the number that it leads to; and a missed major cycle. Assumes nothing.
-use mathlib.Core.Path.{_≡_, refl, sym, ap, _∙_}
+use mathlib.Core.Path.{_≡_, refl}
 use mathlib.Core.Bool.{Bool, true, false, not, cond, _&&_, _||_}
 use mathlib.Core.Logic.{_↔_}
-use Prim.Native.Nat.{ℕ, _+_, _-_, _*_, _/_, _%_, _<_, _≤_}
+use Prim.Native.Nat.{ℕ, _+_, _-_, _*_, _/_, _<_, _≤_}
 use native.Mathlib.Omega.{arith}
-use lib.Dec.{eqb, ltb, ltb→lt, lt→ltb}
-use borrow.Author.Tests.{lt-ltb, le-ltb, eq-eqb, ne-eqb}
-use Rattle.bits.proofs.Yes.{T-of, of-T, not-both}
-use Rattle.cycle.specs.Size.{majorEvery, lastCount, wireSpan, staleFrom}
-use Rattle.cycle.specs.Numbers.{distance, isMajor, missedCycle, missedMajor, following, judgedAt, judged}
-use Rattle.cycle.specs.declared.number.Verdict.{Verdict}
+use lib.Dec.{ltb, ltb→lt, lt→ltb}
+use borrow.Author.Tests.{lt-ltb, le-ltb, ne-eqb}
+use Rattle.bits.proofs.Yes.{T-of, of-T}
+use Rattle.cycle.specs.Size.{majorEvery, lastCount, staleFrom}
+use Rattle.cycle.specs.Numbers.{distance, isMajor, missedMajor, following, judgedAt, judged}
 use Rattle.cycle.specs.declared.number.Verdict.the-variants.{Takes, Refuses}
 use Rattle.cycle.specs.declared.answer.Answer.the-variants.{Stale, Repeat, CountEnded, WrongKind}
 

@@ -9,7 +9,7 @@ use lib.Bits.{bitAnd}
 use lib.ListN.{getD, length}
 use Rattle.bits.specs.Bit.{bit}
 use Rattle.cycle.specs.Map.{mapped}
-use Rattle.cycle.specs.Proper.{ProperStanding, ProperString}
+use Rattle.cycle.specs.Inside.Proper.{ProperStanding, ProperString}
 use Rattle.cycle.specs.Words.{Passed, withStanding, withOff, withOn, withLost, noOff, noOn, offCleared}
 use Rattle.cycle.specs.Words.{leakWord}
 use Rattle.cycle.specs.Words.{recovered, pathLost, gapped, offFailure, manifolds, requested, rechecked, onFailure, kept}
@@ -88,14 +88,14 @@ module _ (m : ℕ) (masks : List ℕ) where
 
   -- ---- put together
 
-  pub minor-steps-proper : (x : Sample) (gap missed : Bool) (s : StringState) → ProperString m masks s
+  minor-steps-proper : (x : Sample) (gap missed : Bool) (s : StringState) → ProperString m masks s
       → ProperString m masks (minorSteps m masks x gap missed s)
   unfolding minorSteps
   minor-steps-proper x gap missed s p =
       manifolds-proper (x .valves) _
       (off-failure-proper (bitAnd (mapped m masks) (x .commanded)) (x .pressure) _ (gapped-proper gap missed _ (recovered-proper s p)))
 
-  pub major-steps-proper : (x : Sample) (leaking : ℕ) (q : Requests) (s : StringState) → ProperString m masks s
+  major-steps-proper : (x : Sample) (leaking : ℕ) (q : Requests) (s : StringState) → ProperString m masks s
       → ProperString m masks (majorSteps m masks x leaking q s)
   unfolding majorSteps
   major-steps-proper x leaking q s p =

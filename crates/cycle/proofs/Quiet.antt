@@ -6,22 +6,20 @@ use mathlib.Core.List.{List}
 use Prim.Native.Nat.{ℕ, zero, suc, _<_}
 use mathlib.Core.Logic.{⊎-elim}
 use native.Mathlib.Nat.{not-suc-le-zero, le-of-suc-le-suc, eq-or-lt-of-le}
-use native.Mathlib.Omega.{arith}
 use lib.Bits.{bitAnd}
 use lib.Dec.{eqb}
 use borrow.Author.Tests.{eqb-true}
-use lib.ListN.{getD, set}
+use lib.ListN.{getD}
 use lib.Seq.{set-getD}
 use Rattle.bits.specs.Bit.{bit, any}
 use Rattle.bits.proofs.Yes.{or-none-left, or-none-right, not-no}
 use Rattle.bits.proofs.Bits.{bit-none}
 use Rattle.cycle.specs.Size.{manifoldCount}
-use Rattle.cycle.specs.Each.{each}
-use Rattle.cycle.specs.Map.{mapped}
+use Rattle.cycle.specs.Map.{masksOf, mapped}
 use Rattle.cycle.specs.Words.{Passed, passed, manifold, atManifold, remembered, manifolds}
 use Rattle.cycle.specs.Words.{recovered, gapped, offFailure, minorSteps, minorCycle}
-use Rattle.cycle.specs.Hall.{pastString, masksOf, sampleOf, minorStrings}
-use Rattle.cycle.specs.Quiet.{inhibitedFail, busy, someBusy, quietCycle, quietStrings}
+use Rattle.cycle.specs.Hall.{pastString, sampleOf, minorStrings}
+use Rattle.cycle.specs.Inside.Quiet.{inhibitedFail, busy, someBusy, quietCycle, quietStrings}
 use Rattle.cycle.specs.declared.map.Masks.{Masks}
 use Rattle.cycle.specs.declared.string.AtManifold.{AtManifold}
 use Rattle.cycle.specs.declared.string.StringState.{StringState}

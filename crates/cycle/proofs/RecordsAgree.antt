@@ -1,7 +1,7 @@
 -- What a record says of jet j on manifold i is what the packed words of the record say at bit j: the mapped jets, the requests carried
 -- out, the bad jets, and those that ask for their manifold's close bit. Assumes nothing.
 use mathlib.Core.Path.{_≡_, sym, ap, ap₂, _∙_}
-use mathlib.Core.Bool.{Bool, true, not, _&&_, _||_, and-comm, and-assoc}
+use mathlib.Core.Bool.{Bool, not, _&&_, _||_, and-comm, and-assoc}
 use mathlib.Core.List.{List}
 use Prim.Native.Nat.{ℕ, _<_}
 use lib.Bits.{bitAnd, bitOr}
@@ -9,11 +9,10 @@ use Rattle.bits.specs.Bit.{bit, without}
 use Rattle.bits.proofs.Bits.{bit-and, bit-or, bit-without}
 use Rattle.bits.proofs.Words.{pack-at}
 use Rattle.cycle.specs.Size.{jetCount}
-use Rattle.cycle.specs.Map.{mapped}
+use Rattle.cycle.specs.Map.{inMask, mapped}
 use Rattle.cycle.specs.Jets as jets
 use Rattle.cycle.specs.Words as words
-use Rattle.cycle.specs.Views.{jetOf, jetSays}
-use Rattle.cycle.specs.Proper.{inMask}
+use Rattle.cycle.specs.Inside.Views.{jetOf, jetSays}
 use Rattle.cycle.specs.declared.string.StringState.{StringState}
 use Rattle.cycle.specs.declared.values.Sample.{Sample}
 use Rattle.cycle.specs.declared.values.Temperatures.{Temperatures}
@@ -26,13 +25,6 @@ leak-agrees : (t : Temperatures) (j : ℕ) → j < jetCount → bit j (words.lea
 unfolding words.leakWord
 leak-agrees t j = pack-at jetCount (words.jetLeaks (t .words)) j
 
--- the words that steps 5 and 6 go by: the string after its requests, and the bad jets
-abbrev pub afterRequests : ℕ → List ℕ → Requests → StringState → StringState
-afterRequests m masks q s = words.requested (bitAnd (mapped m masks) (q .inhibit)) (bitAnd (mapped m masks) (q .reenable)) s
-
-abbrev pub badOf : ℕ → List ℕ → Sample → ℕ → ℕ
-badOf m masks x leaking = words.badJets (mapped m masks) (x .commanded) (x .driver) leaking
-
 module _ (m i j : ℕ) (masks : List ℕ) (below : i < m) (stands : inMask masks i j) where
   -- a word cut down to mapped jets has the jet's bit still
   pub heard : (w : ℕ) → bit j (bitAnd (mapped m masks) w) ≡ bit j w
@@ -40,7 +32,7 @@ module _ (m i j : ℕ) (masks : List ℕ) (below : i < m) (stands : inMask masks
 
   -- step 5
   pub requests-heard : (q : Requests) (s : StringState)
-      → jetOf i j (afterRequests m masks q s)
+      → jetOf i j (words.afterRequests m masks q s)
       ≡ jets.requested (bit j (q .inhibit)) (bit j (q .reenable)) (jetOf i j s)
   requests-heard q s =
       requested-agrees i j (bitAnd (mapped m masks) (q .inhibit)) (bitAnd (mapped m masks) (q .reenable)) s
@@ -48,7 +40,7 @@ module _ (m i j : ℕ) (masks : List ℕ) (below : i < m) (stands : inMask masks
 
   module _ (x : Sample) (q : Requests) (t : Temperatures) (n : ℕ) (path : Bool) (inWord : j < jetCount) where
     -- step 6
-    pub bad-agrees : bit j (badOf m masks x (words.leakWord t)) ≡ jets.isBad (jetSays n path i j x q t)
+    pub bad-agrees : bit j (words.badOf m masks x (words.leakWord t)) ≡ jets.isBad (jetSays n path i j x q t)
     unfolding words.badJets jets.isBad
     bad-agrees =
         let shows : ℕ = bitOr (x .driver) (words.leakWord t) in
@@ -61,13 +53,13 @@ module _ (m i j : ℕ) (masks : List ℕ) (below : i < m) (stands : inMask masks
 
     -- the jet asks for its manifold's close bit exactly where it is in the recheck word and bad again
     pub asked : (s : StringState)
-        → (bit j ((afterRequests m masks q s) .on .recheck)
-        && bit j (without (badOf m masks x (words.leakWord t)) ((afterRequests m masks q s) .over .reenable)))
+        → (bit j ((words.afterRequests m masks q s) .on .recheck)
+        && bit j (without (words.badOf m masks x (words.leakWord t)) ((words.afterRequests m masks q s) .over .reenable)))
         ≡ jets.asks (jets.isBad (jetSays n path i j x q t))
         (jets.requested (bit j (q .inhibit)) (bit j (q .reenable)) (jetOf i j s))
     asked s =
-        let r : StringState = afterRequests m masks q s in
-        let bad : ℕ = badOf m masks x (words.leakWord t) in
+        let r : StringState = words.afterRequests m masks q s in
+        let bad : ℕ = words.badOf m masks x (words.leakWord t) in
         ap (λ (b : Bool). bit j (r .on .recheck) && b) (bit-without j bad (r .over .reenable))
         ∙ sym (and-assoc (bit j (r .on .recheck)) (bit j bad) (not (bit j (r .over .reenable))))
         ∙ ap₂ jets.asks bad-agrees (requests-heard q s)

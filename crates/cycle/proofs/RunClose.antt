@@ -11,9 +11,10 @@ use Rattle.bits.proofs.Yes.{and-left, and-right, and-both}
 use Rattle.bits.proofs.Words.{any-at, any-found}
 use Rattle.cycle.specs.Size.{stringCount, jetCount, manifoldCount}
 use Rattle.cycle.specs.Jets as jets
-use Rattle.cycle.specs.Hall.{masksOf}
-use Rattle.cycle.specs.Views.{stringOf}
-use Rattle.cycle.specs.Runs.{TakenRecord, jetHistory, JetThird}
+use Rattle.cycle.specs.Map.{masksOf}
+use Rattle.cycle.specs.Hall.{stringOf}
+use Rattle.cycle.specs.Inside.Runs.{TakenRecord, jetHistory}
+use Rattle.cycle.specs.Close.{JetThird}
 use Rattle.cycle.specs.declared.map.Masks.{Masks}
 use Rattle.cycle.specs.declared.hall.Hall.{Hall}
 use Rattle.cycle.proofs.Runs.{Run}
@@ -21,13 +22,13 @@ use Rattle.cycle.proofs.Close.{asked-third}
 
 pub close-exactly : (masks : List Masks) (h : Hall) (ts : List TakenRecord) → Run masks h ts
     → (s i : ℕ) → s < stringCount → i < manifoldCount
-    → (bit i ((stringOf h s) .close) ≡ true) ↔ JetThird (getD (masksOf masks s) i 0) s i ts
+    → (bit i ((stringOf h s) .close) ≡ true) ↔ JetThird (getD (masksOf masks s) i 0) (λ j. jetHistory s i j ts)
 close-exactly masks h ts run s i l below = (to, back)
   where
     test : ℕ → Bool
     test j = bit j (getD (masksOf masks s) i 0) && jets.hasAsked (jetHistory s i j ts)
 
-    to : bit i ((stringOf h s) .close) ≡ true → JetThird (getD (masksOf masks s) i 0) s i ts
+    to : bit i ((stringOf h s) .close) ≡ true → JetThird (getD (masksOf masks s) i 0) (λ j. jetHistory s i j ts)
     to e =
         let x = any-found jetCount test (sym (run .told .closes s i l below) ∙ e) in
         record {
@@ -39,7 +40,7 @@ close-exactly masks h ts run s i l below = (to, back)
               (and-right (bit (x .0) (getD (masksOf masks s) i 0)) (jets.hasAsked (jetHistory s i (x .0) ts)) (x .2));
         }
 
-    back : JetThird (getD (masksOf masks s) i 0) s i ts → bit i ((stringOf h s) .close) ≡ true
+    back : JetThird (getD (masksOf masks s) i 0) (λ j. jetHistory s i j ts) → bit i ((stringOf h s) .close) ≡ true
     back w =
         run .told .closes s i l below
         ∙ any-at jetCount test (w .jet) (w .inWord)

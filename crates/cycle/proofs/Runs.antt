@@ -12,20 +12,17 @@ use Rattle.bits.proofs.Bits.{bit-none, bit-ones}
 use Rattle.bits.proofs.Words.{any-none, any-same, any-or}
 use Rattle.cycle.specs.Size.{stringCount, jetCount, manifoldCount, moduleCount}
 use Rattle.cycle.specs.Answers.{isTaken}
-use Rattle.cycle.specs.Map.{refused}
+use Rattle.cycle.specs.Map.{masksOf, FitMap, refused}
 use Rattle.cycle.specs.Numbers.{judged}
 use Rattle.cycle.specs.Jets as jets
-use Rattle.cycle.specs.Jets.{JetRecord}
 use Rattle.cycle.specs.Banks.{noBank}
 use Rattle.cycle.specs.Records.{Record, minor, major, majorKind, common}
-use Rattle.cycle.specs.Hall.{masksOf, freshHall, taken, steppedBy, stepped}
-use Rattle.cycle.specs.Views.{jetOf, stringOf, jetRecord}
-use Rattle.cycle.specs.Proper.{inMask, FitMap, ProperHall}
+use Rattle.cycle.specs.Hall.{freshHall, taken, steppedBy, stepped}
+use Rattle.cycle.specs.Hall.{stringOf}
+use Rattle.cycle.specs.Inside.Views.{jetOf, jetRecord}
+use Rattle.cycle.specs.Inside.Proper.{ProperHall}
 use Rattle.cycle.specs.Close.{Rising}
-use Rattle.cycle.specs.Runs.{hallAfter, takes, TakenRecord, takenOf, jetHistory, bankBy, bankAfter, reachedBy, Told}
-use Rattle.cycle.specs.declared.answer.Answer.{Answer}
-use Rattle.cycle.specs.declared.answer.Answer.the-variants.{Taken}
-use Rattle.cycle.specs.declared.banks.Bank.{Bank}
+use Rattle.cycle.specs.Inside.Runs.{hallAfter, takes, TakenRecord, takenOf, jetHistory, bankBy, reachedBy, Told}
 use Rattle.cycle.specs.declared.jet.JetState.{JetState}
 use Rattle.cycle.specs.declared.map.Masks.{Masks}
 use Rattle.cycle.specs.declared.number.Next.{Next}

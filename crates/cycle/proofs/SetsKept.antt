@@ -11,7 +11,7 @@ use lib.Seq.{getD-set-same, getD-set-other}
 use Rattle.bits.specs.Bit.{bit}
 use Rattle.bits.proofs.Yes.{and-left}
 use Rattle.bits.proofs.Bits.{bit-without}
-use Rattle.cycle.specs.Proper.{inMask}
+use Rattle.cycle.specs.Map.{inMask}
 use Rattle.cycle.specs.Words.{Passed, atManifold, manifold, passed}
 use Rattle.cycle.specs.declared.string.AtManifold.{AtManifold}
 

@@ -1,25 +1,24 @@
 -- A taken record's whole cycle of a string: each mapped jet does what Jets says of the cycle, and a manifold gets its close bit exactly
 -- where one of its jets asks for it. Assumes nothing.
-use mathlib.Core.Path.{_≡_, refl, sym, ap, ap₂, _∙_}
-use mathlib.Core.Bool.{Bool, true, false, not, cond, _&&_, _||_}
+use mathlib.Core.Path.{_≡_, refl, sym, ap, _∙_}
+use mathlib.Core.Bool.{Bool, true, false, not, _&&_, _||_}
 use mathlib.Core.List.{List}
 use Prim.Native.Nat.{ℕ, _^_, _<_}
 use lib.ListN.{getD}
 use Rattle.bits.specs.Bit.{bit, any}
 use Rattle.bits.proofs.Yes.{and-false, or-false}
-use Rattle.bits.proofs.Words.{any-same, any-none}
+use Rattle.bits.proofs.Words.{any-none}
 use Rattle.cycle.specs.Size.{jetCount}
 use Rattle.cycle.specs.Numbers.{isMajor, missedCycle, missedMajor}
 use Rattle.cycle.specs.Jets as jets
 use Rattle.cycle.specs.Words as words
-use Rattle.cycle.specs.Views.{jetOf, jetSays}
-use Rattle.cycle.specs.Proper.{inMask, Disjoint, ProperString}
-use Rattle.cycle.specs.declared.jet.JetState.{JetState}
+use Rattle.cycle.specs.Inside.Views.{jetOf, jetSays}
+use Rattle.cycle.specs.Map.{inMask}
+use Rattle.cycle.specs.Inside.Proper.{Disjoint, ProperString}
 use Rattle.cycle.specs.declared.string.StringState.{StringState}
 use Rattle.cycle.specs.declared.values.Sample.{Sample}
 use Rattle.cycle.specs.declared.values.Temperatures.{Temperatures}
 use Rattle.cycle.specs.declared.values.Requests.{Requests}
-use Rattle.cycle.proofs.ProperKept.{minor-steps-proper}
 use Rattle.cycle.proofs.StepsAgree.{path-lost-agrees}
 use Rattle.cycle.proofs.CyclesAgree.{minor-steps-agree, major-steps-agree, minor-steps-close, major-steps-close, major-steps-fit}
 
@@ -46,12 +45,7 @@ module _ (m : ℕ) (masks : List ℕ) (d : Disjoint m masks) (x : Sample) (q : R
         → jetOf i j (majorly m masks x q t old n path s) ≡ jets.cycle old (jetSays n path i j x q t) (jetOf i j s)
     unfolding words.minorCycle words.majorCycle jets.cycle
     major-cycle-agrees true l k = path-lost-agrees i j s
-    major-cycle-agrees false l k =
-        let a : StringState = words.minorSteps m masks x (missedCycle old n) (missedMajor old n) s in
-        rw k
-        (major-steps-agree m i j masks x q t old n false a d below stands
-        (minor-steps-proper m masks x (missedCycle old n) (missedMajor old n) s p) l
-        ∙ ap (jets.majorSteps (jetSays n false i j x q t)) (minor-steps-agree m i j masks x q t old n false s d below stands p))
+    major-cycle-agrees false l k = rw k (major-steps-agree m i j masks x q t old n false s d below stands p l)
 
   -- ---- the close bits
 
@@ -72,13 +66,10 @@ module _ (m : ℕ) (masks : List ℕ) (d : Disjoint m masks) (x : Sample) (q : R
   asks-none : (path : Bool) (i j : ℕ) → (not path && isMajor n) ≡ false
       → jets.asksAt old (jetSays n path i j x q t) (jetOf i j s) ≡ false
   unfolding jets.asksAt
-  asks-none path i j e = ap (λ (b : Bool). b && jets.asks (jets.isBad r) (jets.requested (r .inhibit) (r .reenable) after)) e
+  asks-none path i j e = ap (λ (b : Bool). b && jets.asks (jets.isBad r) (jets.afterRequests old r (jetOf i j s))) e
     where
       r : jets.JetRecord
       r = jetSays n path i j x q t
-
-      after : JetState
-      after = jets.minorSteps old r (jetOf i j s)
 
   pub quiet-close : (path : Bool) (i : ℕ) → (not path && isMajor n) ≡ false
       → (bit i (s .close) || any jetCount (λ j. bit j (getD masks i 0) && jets.asksAt old (jetSays n path i j x q t) (jetOf i j s)))
@@ -94,22 +85,4 @@ module _ (m : ℕ) (masks : List ℕ) (d : Disjoint m masks) (x : Sample) (q : R
       ≡ (bit i (s .close) || any jetCount (λ j. bit j (getD masks i 0) && jets.asksAt old (jetSays n path i j x q t) (jetOf i j s)))
   unfolding words.minorCycle words.majorCycle words.pathLost jets.asksAt
   major-cycle-close true i below k = sym (quiet-close true i refl)
-  major-cycle-close false i below k =
-      let a : StringState = words.minorSteps m masks x (missedCycle old n) (missedMajor old n) s in
-      major-steps-close m i masks x q t n false a d below (minor-steps-proper m masks x (missedCycle old n) (missedMajor old n) s p)
-      ∙ ap₂ (λ (u v : Bool). u || v) (ap (bit i) (minor-steps-close m masks x (missedCycle old n) (missedMajor old n) s))
-      (any-same jetCount (λ j. bit j (getD masks i 0) && after j (jetOf i j a))
-      (λ j. bit j (getD masks i 0) && jets.asksAt old (jetSays n false i j x q t) (jetOf i j s))
-      (λ j l. by j (bit j (getD masks i 0)) refl))
-    where
-      after : ℕ → JetState → Bool
-      after j y = jets.asks (jets.isBad (jetSays n false i j x q t)) (jets.requested (bit j (q .inhibit)) (bit j (q .reenable)) y)
-
-      by : (j : ℕ) (b : Bool) → bit j (getD masks i 0) ≡ b
-          → (bit j (getD masks i 0) && after j (jetOf i j (words.minorSteps m masks x (missedCycle old n) (missedMajor old n) s)))
-          ≡ (bit j (getD masks i 0) && jets.asksAt old (jetSays n false i j x q t) (jetOf i j s))
-      by j true e =
-          ap (λ (b : Bool). bit j (getD masks i 0) && b)
-          (ap (after j) (minor-steps-agree m i j masks x q t old n false s d below e p)
-          ∙ ap (λ (b : Bool). b && after j (jets.minorSteps old (jetSays n false i j x q t) (jetOf i j s))) (sym k))
-      by j false e = rw e
+  major-cycle-close false i below k = rw k (major-steps-close m i masks x q t old n false s d below p)

@@ -4,7 +4,8 @@ use mathlib.Core.Bool.{Bool, true, false}
 use mathlib.Core.List.{List, [], _∷_}
 use mathlib.Core.Logic.{_⊎_}
 use Prim.Native.Nat.{ℕ, _+_, _<_, _≤_, _%_}
-use Rattle.cycle.specs.Size.{majorEvery}
+use Rattle.bits.specs.Bit.{bit}
+use Rattle.cycle.specs.Size.{jetCount, majorEvery}
 use Rattle.cycle.specs.Jets.{JetRecord, isBad, reached, run}
 
 -- some record, with those taken before it, is so
@@ -40,3 +41,10 @@ pub record Third (r : JetRecord) (h : List JetRecord) : Type 0 where
 -- the newest record or an earlier one is such a third
 abbrev pub EverThird : List JetRecord → Type 0
 EverThird h = Some Third h
+
+-- it is so of one of the jets of `mask`, jet j with the history `history j`
+pub record JetThird (mask : ℕ) (history : ℕ → List JetRecord) : Type 0 where
+  pub jet : ℕ
+  pub inWord : jet < jetCount
+  pub inMask : bit jet mask ≡ true
+  pub third : EverThird (history jet)

@@ -1,18 +1,17 @@
 -- The hall of four strings: which answer a record gets, and the next hall. 01, "Which answer a record gets" and "One cycle of a string".
 -- Assumes nothing.
-use mathlib.Core.Bool.{Bool, true, false, cond}
+use mathlib.Core.Bool.{Bool, false, cond}
 use mathlib.Core.List.{List, []}
 use Prim.Native.Nat.{ℕ}
 use lib.ListN.{getD, replicate}
 use Rattle.bits.specs.Bit.{bit}
 use Rattle.cycle.specs.Size.{stringCount, manifoldCount, moduleCount}
 use Rattle.cycle.specs.Each.{each}
-use Rattle.cycle.specs.Map.{noMasks, pastMasks, refused}
+use Rattle.cycle.specs.Map.{noMasks, masksOf, refused}
 use Rattle.cycle.specs.Numbers.{judged}
 use Rattle.cycle.specs.Words.{noOff, noOn, fresh, minorCycle, majorCycle}
 use Rattle.cycle.specs.Banks.{noBank, weighedAll}
 use Rattle.cycle.specs.Records.{Record, minor, major, majorKind, common}
-use Rattle.cycle.specs.declared.answer.Answer.{Answer}
 use Rattle.cycle.specs.declared.answer.Answer.the-variants.{Taken, MapRefused}
 use Rattle.cycle.specs.declared.number.Next.{Next}
 use Rattle.cycle.specs.declared.number.Verdict.{Verdict}
@@ -52,12 +51,13 @@ pastString = record {
   lost = false;
 }
 
--- string s's part of the map and of a record
-abbrev pub masksOf : List Masks → ℕ → List ℕ
-masksOf masks s = (getD masks s pastMasks) .words
-
+-- string s's part of a record
 abbrev pub sampleOf : Minor → ℕ → Sample
 sampleOf r s = getD (r .samples) s noSample
+
+-- string s of the hall
+abbrev pub stringOf : Hall → ℕ → StringState
+stringOf h s = getD (h .strings) s pastString
 
 -- "n, 0 when fresh"
 unfoldable pub freshHall : List Masks → Hall

@@ -168,26 +168,37 @@ minorSteps old r s =
     manifoldStep (r .valve)
     (offFailure (r .commanded) (r .pressure) (gapped (missedCycle old (r .n)) (missedMajor old (r .n)) (recovered s)))
 
--- steps 5 to 8, "in a major cycle also"
-unfoldable pub majorSteps : JetRecord → JetState → JetState
-majorSteps r s = kept (onFailure (isBad r) (requested (r .inhibit) (r .reenable) s))
+-- steps 1 to 5: "In a major cycle also"; what steps 6 and 7 look at
+abbrev pub afterRequests : ℕ → JetRecord → JetState → JetState
+afterRequests old r s = requested (r .inhibit) (r .reenable) (minorSteps old r s)
+
+-- steps 1 to 8; step 6 changes nothing of the jet
+unfoldable pub majorSteps : ℕ → JetRecord → JetState → JetState
+majorSteps old r s = kept (onFailure (isBad r) (afterRequests old r s))
 
 -- a taken record's whole cycle, the cycle number having been `old`
 unfoldable pub cycle : ℕ → JetRecord → JetState → JetState
-cycle old r s =
-    cond (r .path) (pathLost s) (cond (isMajor (r .n)) (majorSteps r (minorSteps old r s)) (minorSteps old r s))
+cycle old r s = cond (r .path) (pathLost s) (cond (isMajor (r .n)) (majorSteps old r s) (minorSteps old r s))
 
 -- does the jet ask for its manifold's close bit at this record: in a major cycle, its path good, after step 5
 unfoldable pub asksAt : ℕ → JetRecord → JetState → Bool
-asksAt old r s =
-    not (r .path) && isMajor (r .n) && asks (isBad r) (requested (r .inhibit) (r .reenable) (minorSteps old r s))
+asksAt old r s = not (r .path) && isMajor (r .n) && asks (isBad r) (afterRequests old r s)
 
 -- ---- over a history: the records taken so far, the newest first
 
--- the cycle number reached: "n, 0 when fresh"
+-- what records say of the jet, each by `says`
+abbrev pub historyBy : {A : Type 0} → (A → JetRecord) → List A → List JetRecord
+historyBy says [] = []
+historyBy says (t ∷ ts) = says t ∷ historyBy says ts
+
+-- the cycle number that the newest of them led to, "0 when fresh"
+abbrev pub newestOf : {A : Type 0} → (A → ℕ) → List A → ℕ
+newestOf number [] = 0
+newestOf number (t ∷ ts) = number t
+
+-- the cycle number reached
 abbrev pub reached : List JetRecord → ℕ
-reached [] = 0
-reached (r ∷ h) = r .n
+reached h = newestOf (λ (r : JetRecord). r .n) h
 
 -- the jet after the history, from fresh
 unfoldable pub run : List JetRecord → JetState

@@ -9,8 +9,5 @@ pub mod Words
 pub mod Banks
 pub mod Records
 pub mod Hall
-pub mod Quiet
-pub mod Views
-pub mod Proper
 pub mod Close
-pub mod Runs
+pub mod Inside

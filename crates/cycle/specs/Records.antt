@@ -1,6 +1,5 @@
 -- The values of a record, of either kind. Assumes nothing.
 use mathlib.Core.Bool.{Bool, true, false}
-use Prim.Native.Nat.{ℕ}
 use Rattle.cycle.specs.declared.values.Minor.{Minor}
 use Rattle.cycle.specs.declared.values.Major.{Major}
 

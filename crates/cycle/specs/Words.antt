@@ -1,6 +1,6 @@
 -- One cycle of a string on packed words: the rules of Jets for 32 jets at once, jet j being bit j. That each bit is what Jets says is
 -- proved (proofs/). Masks are one string's, manifold 0 first; `m` is the number of manifolds. Assumes nothing.
-use mathlib.Core.Bool.{Bool, true, false, not, cond, _||_}
+use mathlib.Core.Bool.{Bool, true, false, cond}
 use mathlib.Core.List.{List}
 use Prim.Native.Nat.{ℕ, zero, suc, _+_, _*_}
 use lib.Bits.{bitAnd, bitOr}
@@ -187,12 +187,19 @@ unfoldable pub minorSteps : ℕ → List ℕ → Sample → Bool → Bool → St
 minorSteps m masks x gap missed s =
     manifolds m masks (x .valves) (offFailure (bitAnd (mapped m masks) (x .commanded)) (x .pressure) (gapped gap missed (recovered s)))
 
--- steps 5 to 8, the path bit being clear; requests and badness of unmapped jets are ignored
+-- step 5; requests of unmapped jets are ignored
+abbrev pub afterRequests : ℕ → List ℕ → Requests → StringState → StringState
+afterRequests m masks q s = requested (bitAnd (mapped m masks) (q .inhibit)) (bitAnd (mapped m masks) (q .reenable)) s
+
+-- step 6; badness of unmapped jets is ignored
+abbrev pub badOf : ℕ → List ℕ → Sample → ℕ → ℕ
+badOf m masks x leaking = badJets (mapped m masks) (x .commanded) (x .driver) leaking
+
+-- steps 5 to 8, the path bit being clear
 unfoldable pub majorSteps : ℕ → List ℕ → Sample → ℕ → Requests → StringState → StringState
 majorSteps m masks x leaking q s =
-    let jets = mapped m masks in
-    let bad = badJets jets (x .commanded) (x .driver) leaking in
-    kept (onFailure bad (rechecked m masks bad (requested (bitAnd jets (q .inhibit)) (bitAnd jets (q .reenable)) s)))
+    let bad = badOf m masks x leaking in
+    kept (onFailure bad (rechecked m masks bad (afterRequests m masks q s)))
 
 -- steps 1 to 4 of any taken record
 unfoldable pub minorCycle : ℕ → List ℕ → Bool → Sample → Bool → Bool → StringState → StringState

@@ -15,7 +15,7 @@ pub struct Bank {
 
 impl Bank {
     // Nothing known yet.
-    pub fn unknown() -> Bank
+    pub(crate) fn unknown() -> Bank
         ensures { λ r. ⌜ r ≡ noBank ⌝ }
     {
         Bank {
@@ -27,7 +27,7 @@ impl Bank {
 }
 
 // One module's two quantities compared.
-pub fn weighed(q: Quantities) -> Bank
+fn weighed(q: Quantities) -> Bank
     ensures { λ r. ⌜ r ≡ weighed q ⌝ }
 {
     if q.oxidizer < q.fuel {
@@ -46,7 +46,7 @@ pub fn weighed(q: Quantities) -> Bank
 }
 
 // All modules, each compared anew.
-pub fn weighed_all(banks: [Bank; MODULES], q: [Quantities; MODULES]) -> [Bank; MODULES]
+pub(crate) fn weighed_all(banks: [Bank; MODULES], q: [Quantities; MODULES]) -> [Bank; MODULES]
     ensures { λ r. ⌜ r ≡ weighedAll moduleCount q banks ⌝ }
 {
     let mut next = banks;

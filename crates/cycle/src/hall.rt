@@ -3,7 +3,7 @@ ghost use mathlib.Core.Path.{_≡_};
 ghost use mathlib.Core.Bool.{true, false};
 ghost use Rattle.cycle.specs.Size.{stringCount};
 ghost use Rattle.cycle.specs.Hall.{freshHall, started, minorStrings, majorStrings, minorTaken, majorTaken, stepped};
-ghost use Rattle.cycle.specs.Quiet.{someBusy, quietStrings};
+ghost use Rattle.cycle.specs.Inside.Quiet.{someBusy, quietStrings};
 ghost use Rattle.cycle.specs.Records.{Record};
 use crate::answer::Answer;
 use crate::banks::Bank;
@@ -93,7 +93,7 @@ fn all_steps(
 }
 
 // Steps 1 to 4 of every string. Most records find nothing but words to change: they are told apart once, and not step by step.
-pub fn minor_strings(
+fn minor_strings(
     strings: [StringState; STRINGS],
     masks: [Masks; STRINGS],
     r: Minor,
@@ -110,7 +110,7 @@ pub fn minor_strings(
 }
 
 // Steps 5 to 8 of every string.
-pub fn major_strings(
+fn major_strings(
     strings: [StringState; STRINGS],
     masks: [Masks; STRINGS],
     r: Major,

@@ -7,21 +7,21 @@ use crate::size::LEAK_BELOW;
 use crate::values::Temperatures;
 
 // Does this temperature word show a leak?
-pub fn cold(t: u16) -> bool
+fn cold(t: u16) -> bool
     ensures { λ r. ⌜ r ≡ cold t ⌝ }
 {
     t < LEAK_BELOW
 }
 
 // Does a jet with these words leak?
-pub fn leaks(fuel: u16, oxidizer: u16) -> bool
+fn leaks(fuel: u16, oxidizer: u16) -> bool
     ensures { λ r. ⌜ r ≡ leaks fuel oxidizer ⌝ }
 {
     cold(fuel) | cold(oxidizer)
 }
 
 // The jets that leak, as a word: all 32 are visited.
-pub fn leak_word(t: Temperatures) -> u32
+pub(crate) fn leak_word(t: Temperatures) -> u32
     ensures { λ r. ⌜ r ≡ leakWord t ⌝ }
 {
     let words = t.words;

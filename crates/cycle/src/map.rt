@@ -34,7 +34,7 @@ impl Masks {
     }
 
     // Does a jet stand in two masks?
-    pub fn overlap(self) -> bool
+    fn overlap(self) -> bool
         ensures { λ r. ⌜ r ≡ overlap manifoldCount (self .words) ⌝ }
     {
         let words = self.words;
@@ -51,7 +51,7 @@ impl Masks {
 }
 
 // Is the map refused: does some string have a jet in two masks?
-pub fn refused(masks: [Masks; STRINGS]) -> bool
+pub(crate) fn refused(masks: [Masks; STRINGS]) -> bool
     ensures { λ r. ⌜ r ≡ refused stringCount masks ⌝ }
 {
     let mut found = false;

@@ -19,14 +19,14 @@ pub enum Verdict {
 }
 
 // d: the wire cycle less the lowest 16 bits of n, modulo 65,536.
-pub fn distance(n: u32, wire: u16) -> u16
+fn distance(n: u32, wire: u16) -> u16
     ensures { λ r. ⌜ r ≡ distance n wire ⌝ }
 {
     std::num::wrapping_sub_u16(wire, (n % 65536) as u16)
 }
 
 // Is a cycle of this number major?
-pub fn is_major(n: u32) -> bool
+fn is_major(n: u32) -> bool
     ensures { λ r. ⌜ r ≡ isMajor n ⌝ }
 {
     n % MAJOR_EVERY == 0

@@ -10,10 +10,10 @@ pub const JETS: usize = 32;
 pub const MANIFOLDS: usize = 4;
 
 // All valves open: a bit for each manifold.
-pub const ALL_OPEN: u32 = 15;
+pub const ALL_OPEN: u32 = (1 << MANIFOLDS) - 1;
 
 // Two temperature words a jet, fuel then oxidizer.
-pub const TEMPERATURES: usize = 64;
+pub const TEMPERATURES: usize = 2 * JETS;
 
 // Three modules, each with a fuel and an oxidizer bank.
 pub const MODULES: usize = 3;

@@ -1,9 +1,10 @@
 // One string of 32 jets on packed words: jet j is bit j. A method for each numbered step of document 01.
 ghost use mathlib.Core.Path.{_≡_};
-ghost use mathlib.Core.Bool.{_&&_};
 ghost use Rattle.cycle.specs.Size.{manifoldCount};
-ghost use Rattle.cycle.specs.Quiet.{busy, quietCycle};
-ghost use Rattle.cycle.specs.Words.{fresh, pathLost, recovered, gapped, offFailure, manifold, manifolds, requested, asksClose, closeBits, rechecked, onFailure, kept, badJets, minorCycle, majorCycle};
+ghost use Rattle.cycle.specs.Inside.Quiet.{busy, quietCycle};
+ghost use Rattle.cycle.specs.Words.{fresh, pathLost, recovered, gapped, offFailure, manifold, manifolds};
+ghost use Rattle.cycle.specs.Words.{requested, asksClose, closeBits, rechecked, onFailure, kept, badJets};
+ghost use Rattle.cycle.specs.Words.{minorCycle, majorCycle};
 use crate::leak::leak_word;
 use crate::map::Masks;
 use crate::size::ALL_OPEN;
@@ -62,7 +63,7 @@ pub struct AtManifold {
 
 impl AtManifold {
     // Step 4 for one manifold with the jets of `mask`. was: its valve is remembered as open; now: it is open now.
-    pub fn manifold(mut self, mask: u32, was: bool, now: bool) -> AtManifold
+    fn manifold(mut self, mask: u32, was: bool, now: bool) -> AtManifold
         ensures { λ r. ⌜ r ≡ manifold mask was now self ⌝ }
     {
         if was {
@@ -81,14 +82,14 @@ impl AtManifold {
 }
 
 // Step 6: does a manifold with the jets of `mask` get its close bit: is one and the same jet of it in the recheck word and bad again?
-pub fn asks_close(mask: u32, recheck: u32, bad: u32) -> bool
+fn asks_close(mask: u32, recheck: u32, bad: u32) -> bool
     ensures { λ r. ⌜ r ≡ asksClose mask recheck bad ⌝ }
 {
     meets(mask & recheck, bad)
 }
 
 // The manifolds that get their close bits.
-pub fn close_bits(masks: Masks, recheck: u32, bad: u32) -> u32
+fn close_bits(masks: Masks, recheck: u32, bad: u32) -> u32
     ensures { λ r. ⌜ r ≡ closeBits manifoldCount (masks .words) recheck bad ⌝ }
 {
     let words = masks.words;
@@ -103,14 +104,14 @@ pub fn close_bits(masks: Masks, recheck: u32, bad: u32) -> u32
 }
 
 // Step 6: the mapped jets that are bad.
-pub fn bad_jets(mapped: u32, commanded: u32, driver: u32, leaking: u32) -> u32
+fn bad_jets(mapped: u32, commanded: u32, driver: u32, leaking: u32) -> u32
     ensures { λ r. ⌜ r ≡ badJets mapped commanded driver leaking ⌝ }
 {
     without(mapped & (driver | leaking), commanded)
 }
 
 impl StringState {
-    pub fn fresh() -> StringState
+    pub(crate) fn fresh() -> StringState
         ensures { λ r. ⌜ r ≡ fresh ⌝ }
     {
         let none = [0u32; MANIFOLDS];
@@ -142,7 +143,7 @@ impl StringState {
     }
 
     // Step 1, the path bit set.
-    pub fn path_lost(mut self) -> StringState
+    fn path_lost(mut self) -> StringState
         ensures { λ r. ⌜ r ≡ pathLost self ⌝ }
     {
         self.lost = true;
@@ -150,7 +151,7 @@ impl StringState {
     }
 
     // Step 1, the path bit clear: after a fault the good copy comes back.
-    pub fn recovered(mut self) -> StringState
+    fn recovered(mut self) -> StringState
         ensures { λ r. ⌜ r ≡ recovered self ⌝ }
     {
         if self.lost {
@@ -174,7 +175,7 @@ impl StringState {
     }
 
     // Step 2. gap: a cycle was missed; missed: a major one.
-    pub fn gapped(mut self, gap: bool, missed: bool) -> StringState
+    fn gapped(mut self, gap: bool, missed: bool) -> StringState
         ensures { λ r. ⌜ r ≡ gapped gap missed self ⌝ }
     {
         if gap {
@@ -197,7 +198,7 @@ impl StringState {
     }
 
     // Step 3.
-    pub fn off_failure(mut self, commanded: u32, pressure: u32) -> StringState
+    fn off_failure(mut self, commanded: u32, pressure: u32) -> StringState
         ensures { λ r. ⌜ r ≡ offFailure commanded pressure self ⌝ }
     {
         let was = self.off;
@@ -217,7 +218,7 @@ impl StringState {
     }
 
     // Step 4: the manifolds, lowest first; then all inhibited jets are failed and the valves are remembered.
-    pub fn manifolds(mut self, masks: Masks, valves: u32) -> StringState
+    fn manifolds(mut self, masks: Masks, valves: u32) -> StringState
         ensures { λ r. ⌜ r ≡ manifolds manifoldCount (masks .words) valves self ⌝ }
     {
         let words = masks.words;
@@ -274,7 +275,7 @@ impl StringState {
     }
 
     // Step 5.
-    pub fn requested(mut self, inhibit: u32, reenable: u32) -> StringState
+    fn requested(mut self, inhibit: u32, reenable: u32) -> StringState
         ensures { λ r. ⌜ r ≡ requested inhibit reenable self ⌝ }
     {
         let i = without(inhibit, reenable);
@@ -290,7 +291,7 @@ impl StringState {
     }
 
     // Step 6, given the bad jets.
-    pub fn rechecked(mut self, masks: Masks, bad: u32) -> StringState
+    fn rechecked(mut self, masks: Masks, bad: u32) -> StringState
         ensures { λ r. ⌜ r ≡ rechecked manifoldCount (masks .words) bad self ⌝ }
     {
         let again = without(bad, self.over.reenable);
@@ -299,7 +300,7 @@ impl StringState {
     }
 
     // Step 7, given the bad jets.
-    pub fn on_failure(mut self, bad: u32) -> StringState
+    fn on_failure(mut self, bad: u32) -> StringState
         ensures { λ r. ⌜ r ≡ onFailure bad self ⌝ }
     {
         let older = self.on.newest;
@@ -316,7 +317,7 @@ impl StringState {
     }
 
     // Step 8.
-    pub fn kept(mut self) -> StringState
+    fn kept(mut self) -> StringState
         ensures { λ r. ⌜ r ≡ kept self ⌝ }
     {
         let standing = self.standing;
@@ -325,7 +326,7 @@ impl StringState {
     }
 
     // Steps 1 to 4, for any taken record.
-    pub fn minor_cycle(
+    pub(crate) fn minor_cycle(
         self,
         masks: Masks,
         path: bool,
@@ -347,7 +348,7 @@ impl StringState {
     }
 
     // Steps 5 to 8, for a taken major record.
-    pub fn major_cycle(
+    pub(crate) fn major_cycle(
         self,
         masks: Masks,
         path: bool,

@@ -1,5 +1,5 @@
 -- 01, "Which answer a record gets": the condition of each answer of a call, by the record r that it settles (its bytes, none where it
--- settles none), the cycle number n and the room in the outbox; and what the call leaves. The numbers are written as document 01
+-- settles none), the hall and the room in the outbox; and what the call leaves. The numbers are written as document 01
 -- writes them. Assumes nothing.
 use mathlib.Core.Path.{_≡_}
 use mathlib.Core.List.{List, [], _++_}
@@ -7,12 +7,12 @@ use mathlib.Core.Logic.{_⊎_, _↔_}
 use Prim.Native.Nat.{ℕ, _+_, _-_, _*_, _%_, _<_, _≤_}
 use lib.ListN.{length, getD, take, drop, replicate}
 use Rattle.cycle.specs.Size.{stringCount}
-use Rattle.cycle.specs.Map.{noMasks}
+use Rattle.cycle.specs.Map.{TwoMasks, noMasks}
 use Rattle.cycle.specs.Hall.{freshHall, stepped}
-use Rattle.cycle.specs.Proper.{TwoMasks}
 use Rattle.cycle.specs.declared.answer.Answer.{Answer}
 use Rattle.cycle.specs.declared.answer.Answer.the-variants.{Taken, Stale, Repeat, CountEnded, WrongKind, OutboxShort, MapRefused}
 use Rattle.cycle.specs.declared.answer.Answer.the-variants.{NothingSettled}
+use Rattle.cycle.specs.declared.hall.Hall.{Hall}
 use Rattle.cycle.specs.declared.map.Masks.{Masks}
 use Rattle.feed.specs.Good.{MinorRecord, MajorRecord, WholeRecord}
 use Rattle.feed.specs.Settled.{recordIn, valuesIn}
@@ -33,23 +33,23 @@ pub record Ahead (n : ℕ) (r : List ℕ) : Type 0 where
   pub notRepeat : 0 < apart n r
   pub notStale : apart n r < 32768
 
--- "new n is a multiple of 25 and the record is minor, or the reverse"
+-- "new n is a multiple of 25 and the record is minor, or the reverse": the mark tells the kind
 abbrev pub Crossed : ℕ → List ℕ → Type 0
-Crossed new r = ((new % 25 ≡ 0) × (length r ≡ 59)) ⊎ ((new % 25 ≡ 0 → ⊥) × (length r ≡ 615))
+Crossed new r = ((new % 25 ≡ 0) × (getD r 1 0 ≡ 0x4D)) ⊎ ((new % 25 ≡ 0 → ⊥) × (getD r 1 0 ≡ 0x4A))
 
 abbrev pub Matched : ℕ → List ℕ → Type 0
-Matched new r = ((new % 25 ≡ 0) × (length r ≡ 615)) ⊎ ((new % 25 ≡ 0 → ⊥) × (length r ≡ 59))
+Matched new r = ((new % 25 ≡ 0) × (getD r 1 0 ≡ 0x4A)) ⊎ ((new % 25 ≡ 0 → ⊥) × (getD r 1 0 ≡ 0x4D))
 
 -- column "when", "answer 5 is tested before anything else in a call; then 1 or 2, then 3, then 4"
-abbrev pub Condition : Answer → ℕ → ℕ → List ℕ → Type 0
-Condition Taken n room r = (34 ≤ room) × Ahead n r × (n + apart n r ≤ 4294967295) × Matched (n + apart n r) r
-Condition Stale n room r = (34 ≤ room) × (0 < length r) × (32768 ≤ apart n r)
-Condition Repeat n room r = (34 ≤ room) × (0 < length r) × (apart n r ≡ 0)
-Condition CountEnded n room r = (34 ≤ room) × Ahead n r × (4294967295 < n + apart n r)
-Condition WrongKind n room r = (34 ≤ room) × Ahead n r × (n + apart n r ≤ 4294967295) × Crossed (n + apart n r) r
-Condition OutboxShort n room r = room < 34
-Condition MapRefused n room r = ⊥
-Condition NothingSettled n room r = (34 ≤ room) × (r ≡ [])
+abbrev pub Condition : Answer → Hall → ℕ → List ℕ → Type 0
+Condition Taken h room r = (34 ≤ room) × Ahead (h .n) r × (h .n + apart (h .n) r ≤ 4294967295) × Matched (h .n + apart (h .n) r) r
+Condition Stale h room r = (34 ≤ room) × (0 < length r) × (32768 ≤ apart (h .n) r)
+Condition Repeat h room r = (34 ≤ room) × (0 < length r) × (apart (h .n) r ≡ 0)
+Condition CountEnded h room r = (34 ≤ room) × Ahead (h .n) r × (4294967295 < h .n + apart (h .n) r)
+Condition WrongKind h room r = (34 ≤ room) × Ahead (h .n) r × (h .n + apart (h .n) r ≤ 4294967295) × Crossed (h .n + apart (h .n) r) r
+Condition OutboxShort h room r = room < 34
+Condition MapRefused h room r = ⊥
+Condition NothingSettled h room r = (34 ≤ room) × (r ≡ [])
 
 -- ---- what is left
 

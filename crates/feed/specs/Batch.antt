@@ -2,11 +2,12 @@
 use mathlib.Core.Path.{_≡_}
 use mathlib.Core.Bool.{true, false, cond}
 use mathlib.Core.List.{List, [], _∷_, _++_}
-use Prim.Native.Nat.{ℕ, _≤_}
+use Prim.Native.Nat.{ℕ, _+_, _<_, _≤_}
 use lib.ListN.{length, drop}
 use Rattle.cycle.specs.Answers.{writesReport}
 use Rattle.cycle.specs.declared.answer.Answer.the-variants.{NothingSettled}
 use Rattle.cycle.specs.declared.map.Masks.{Masks}
+use Rattle.feed.specs.Size.{outboxNeeded}
 use Rattle.feed.specs.Call.{Reported}
 use Rattle.feed.specs.Calls.{Made, monitorAfter, answerOf, reportIn, Hands}
 
@@ -26,13 +27,13 @@ LastAlone masks [] cs = ⊥
 LastAlone masks (c ∷ more) cs = (answerOf masks c (more ++ cs) ≡ NothingSettled) × AllSettled masks more cs
 
 -- After the calls cs, with this piece and more behind it left of the feed: calls go on until one settles nothing, the piece then being used
--- up, or until n have each settled a record; bytes used, monitor and reports are what `runs` says.
-pub record Continues (masks : List Masks) (feed : List ℕ) (cs : List Made) (piece behind : List ℕ) (n : ℕ) (x : Reported) : Type 0 where
+-- up, or until so much of the room is written that it is too short for a call; bytes used, monitor and reports are what `runs` says.
+pub record Continues (masks : List Masks) (feed : List ℕ) (cs : List Made) (piece behind : List ℕ) (room : ℕ) (x : Reported) : Type 0 where
   pub more : List Made
-  pub most : length more ≤ n
+  pub fits : length (x .reports) ≤ room
   pub within : x .used ≤ length piece
   pub hands : Hands masks feed (more ++ cs) (drop (x .used) piece ++ behind)
   pub monitor : monitorAfter masks (more ++ cs) ≡ x .monitor
   pub reports : allReports masks (more ++ cs) ≡ allReports masks cs ++ x .reports
-  pub full : x .more ≡ true → AllSettled masks more cs × (length more ≡ n)
+  pub full : x .more ≡ true → AllSettled masks more cs × (room < length (x .reports) + outboxNeeded)
   pub idle : x .more ≡ false → LastAlone masks more cs × (x .used ≡ length piece)

@@ -1,25 +1,20 @@
 -- 01, "The feed" and "Which answer a record gets": one call, and a run of calls over a piece. Assumes nothing.
 use mathlib.Core.Path.{_≡_}
 use mathlib.Core.Bool.{Bool, true, false, cond}
-use mathlib.Core.List.{List, [], _∷_, _++_}
-use Prim.Native.Nat.{ℕ, zero, suc, _+_, _-_, _/_}
+use mathlib.Core.List.{List, [], _++_}
+use Prim.Native.Nat.{ℕ, zero, suc, _+_, _-_}
 use lib.Dec.{ltb}
-use lib.ListN.{length, take, drop, replicate}
-use Rattle.cycle.specs.Size.{stringCount}
-use Rattle.cycle.specs.Hall.{started, stepped}
-use Rattle.cycle.specs.declared.answer.Answer.{Answer}
-use Rattle.cycle.specs.declared.answer.Answer.the-variants.{Taken, Stale, Repeat, CountEnded, WrongKind, OutboxShort, MapRefused}
-use Rattle.cycle.specs.declared.answer.Answer.the-variants.{NothingSettled}
+use lib.ListN.{length, take, drop}
+use Rattle.cycle.specs.Answers.{writesReport}
+use Rattle.cycle.specs.Hall.{started}
+use Rattle.cycle.specs.declared.answer.Answer.the-variants.{OutboxShort, NothingSettled}
 use Rattle.cycle.specs.declared.hall.Hall.{Hall}
-use Rattle.cycle.specs.declared.hall.Stepped.{Stepped}
 use Rattle.cycle.specs.declared.map.Masks.{Masks}
 use Rattle.feed.specs.Size.{reportLength, outboxNeeded}
-use Rattle.feed.specs.Format.{lengthOf, look}
-use Rattle.feed.specs.Reader.{shown, Stop, reads, store, heldOf}
-use Rattle.feed.specs.Values.{valuesOf}
+use Rattle.feed.specs.Format.{look, settles, lengthShown}
+use Rattle.feed.specs.Reader.{Stop, reads, store, heldOf}
+use Rattle.feed.specs.Step.{stepOf}
 use Rattle.feed.specs.Report.{reportOf}
-use Rattle.feed.specs.declared.format.Kind.{Kind}
-use Rattle.feed.specs.declared.format.Kind.the-variants.{NoKind, Minor, Major}
 use Rattle.feed.specs.declared.call.Monitor.{Monitor}
 use Rattle.feed.specs.declared.call.Outcome.{Outcome}
 use Rattle.feed.specs.declared.call.Ran.{Ran}
@@ -41,11 +36,11 @@ pub record Result : Type 0 where
   pub outcome : Outcome
   pub outbox : List ℕ
 
--- a record of kind k stands at the front: it is answered and removed, and its report written; "bytes after the 34th keep their values"
-abbrev pub settledOne : Kind → Hall → Stop → ℕ → List ℕ → Result
-settledOne k h s used out =
-    let n = lengthOf k in
-    let x = stepped (valuesOf k (take n (s .left))) h in
+-- a record stands at the front: it is answered and removed, and its report written; "bytes after the 34th keep their values"
+abbrev pub settledOne : Hall → Stop → ℕ → List ℕ → Result
+settledOne h s used out =
+    let n = lengthShown (look (s .left)) in
+    let x = stepOf (take n (s .left)) h in
     record {
       outcome = record { answer = x .answer; used = used; monitor = holding (x .hall) (drop n (s .left)) };
       outbox = reportOf (x .answer) (x .hall) ++ drop reportLength out;
@@ -56,16 +51,14 @@ abbrev pub settledNone : Hall → Stop → ℕ → List ℕ → Result
 settledNone h s used out =
     record { outcome = record { answer = NothingSettled; used = used; monitor = holding h (s .left) }; outbox = out }
 
-abbrev pub calledBy : Kind → Hall → Stop → ℕ → List ℕ → Result
-calledBy NoKind h s used out = settledNone h s used out
-calledBy Minor h s used out = settledOne Minor h s used out
-calledBy Major h s used out = settledOne Major h s used out
+abbrev pub calledBy : Bool → Hall → Stop → ℕ → List ℕ → Result
+calledBy there h s used out = cond there (settledOne h s used out) (settledNone h s used out)
 
 -- "It says how many bytes of the piece it used: exactly those up to the one that settled the record, none if held bytes did, or all."
 unfoldable pub called : Monitor → List ℕ → List ℕ → Result
 called m piece out =
     let s = reads (holds m) piece in
-    calledBy (shown (look (s .left))) (m .hall) s (length piece - length (s .rest)) out
+    calledBy (settles (look (s .left))) (m .hall) s (length piece - length (s .rest)) out
 
 -- 5: "outbox under 34 bytes": "as before, reader too, 0 bytes used", "untouched"; it "is tested before anything else in a call"
 unfoldable pub call : Monitor → List ℕ → List ℕ → Result
@@ -84,32 +77,31 @@ pub record Reported : Type 0 where
   pub more : Bool
   pub monitor : Monitor
 
+-- there is no room for a call
+abbrev pub reportedFull : Monitor → Reported
+reportedFull m = record { used = 0; reports = []; more = true; monitor = m }
+
 -- a call that settled a record, and then those behind it
 abbrev pub reportedThen : Result → Reported → Reported
 reportedThen c r = record
     { used = c .outcome .used + r .used; reports = c .outbox ++ r .reports; more = r .more; monitor = r .monitor }
 
+-- a call that settled nothing
 abbrev pub reportedLast : Result → Reported
 reportedLast c = record { used = c .outcome .used; reports = []; more = false; monitor = c .outcome .monitor }
 
-abbrev pub settledAny : Answer → Bool
-settledAny Taken = true
-settledAny Stale = true
-settledAny Repeat = true
-settledAny CountEnded = true
-settledAny WrongKind = true
-settledAny OutboxShort = false
-settledAny MapRefused = false
-settledAny NothingSettled = false
-
--- at most n calls, the last of them the first that settles nothing
-unfoldable pub runs : ℕ → Monitor → List ℕ → Reported
-runs zero m piece = record { used = 0; reports = []; more = true; monitor = m }
-runs (suc n) m piece =
+-- calls as long as there is room, at most `most` of them, the last the first that settles nothing
+unfoldable pub runsWithin : ℕ → ℕ → Monitor → List ℕ → Reported
+runsWithin zero room m piece = reportedFull m
+runsWithin (suc most) room m piece =
     let c = called m piece [] in
-    let r = runs n (c .outcome .monitor) (drop (c .outcome .used) piece) in
+    let r = runsWithin most (room - length (c .outbox)) (c .outcome .monitor) (drop (c .outcome .used) piece) in
     let then = reportedThen c r in
-    cond (settledAny (c .outcome .answer)) then (reportedLast c)
+    cond (ltb room outboxNeeded) (reportedFull m) (cond (writesReport (c .outcome .answer)) then (reportedLast c))
+
+-- each report takes at least a byte of the room: so many calls are never too few
+abbrev pub runs : ℕ → Monitor → List ℕ → Reported
+runs room m piece = runsWithin room room m piece
 
 -- what the function gives back, and the outbox: the reports, and behind them what was there
 pub record Ran-by (x : Reported) (out : List ℕ) (r : Ran) (after : List ℕ) : Type 0 where

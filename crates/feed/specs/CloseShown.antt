@@ -8,7 +8,7 @@ use lib.ListN.{getD}
 use Rattle.bits.specs.Bit.{bit}
 use Rattle.cycle.specs.Size.{jetCount}
 use Rattle.cycle.specs.Answers.{writesReport}
-use Rattle.cycle.specs.Close.{Third, EverThird}
+use Rattle.cycle.specs.Close.{Third, JetThird}
 use Rattle.cycle.specs.declared.map.Masks.{Masks}
 use Rattle.feed.specs.Heard.{Heard, jetHeard, jetHistory}
 use Rattle.feed.specs.Calls.{Made, answerOf, reportIn}
@@ -30,11 +30,8 @@ pub record ThirdNow (mask s i : ℕ) (t : Heard) (ts : List Heard) : Type 0 wher
   pub third : Third (jetHeard s i jet t) (jetHistory s i jet ts)
 
 -- at the newest record taken or an earlier one
-pub record ThirdEver (mask s i : ℕ) (ts : List Heard) : Type 0 where
-  pub jet : ℕ
-  pub inWord : jet < jetCount
-  pub inMask : bit jet mask ≡ true
-  pub third : EverThird (jetHistory s i jet ts)
+abbrev pub ThirdEver : ℕ → ℕ → ℕ → List Heard → Type 0
+ThirdEver mask s i ts = JetThird mask (λ j. jetHistory s i j ts)
 
 -- the newest of the records taken is "the earliest major cycle in which" this is so
 abbrev pub Earliest : ℕ → ℕ → ℕ → List Heard → Type 0

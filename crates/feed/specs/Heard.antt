@@ -1,12 +1,12 @@
 -- What a taken record says of one jet and of one module, read off its bytes: 01, "The feed", place by place. The numbers are written as
 -- document 01 writes or adds them up. Lists are the newest first. Assumes nothing.
-use mathlib.Core.Bool.{Bool, true, false, cond}
+use mathlib.Core.Bool.{cond}
 use mathlib.Core.List.{List, [], _∷_}
 use Prim.Native.Nat.{ℕ, _+_, _*_}
 use lib.Dec.{eqb}
-use lib.ListN.{length, getD}
+use lib.ListN.{getD}
 use Rattle.bits.specs.Bit.{bit}
-use Rattle.cycle.specs.Jets.{JetRecord}
+use Rattle.cycle.specs.Jets.{JetRecord, historyBy, newestOf}
 use Rattle.cycle.specs.Banks.{noBank, weighed}
 use Rattle.cycle.specs.declared.banks.Bank.{Bank}
 use Rattle.feed.specs.Bytes.{two, four}
@@ -18,12 +18,12 @@ pub record Heard : Type 0 where
 
 -- the cycle number reached, "0 when fresh"
 abbrev pub reachedBy : List Heard → ℕ
-reachedBy [] = 0
-reachedBy (t ∷ ts) = t .n
+reachedBy ts = newestOf (λ (t : Heard). t .n) ts
 
--- a number of a major record; a minor one has no temperatures and requests: they stand as 0, and only major cycles look at them
+-- a number of a major record, told by its mark 52 4A; a minor one has no temperatures and requests: they stand as 0, and only major
+-- cycles look at them
 abbrev pub inMajor : List ℕ → ℕ → ℕ
-inMajor r x = cond (eqb (length r) 615) x 0
+inMajor r x = cond (eqb (getD r 1 0) 0x4A) x 0
 
 -- Jet j on manifold i of string s. "path byte (bit s ..); for each string 13 bytes: commanded C (4), pressure P (4), driver D (4),
 -- valve-open V (1; bit i for manifold i, ..)"; "512 bytes of injector temperatures (string by string, jet by jet, fuel word then oxidizer
@@ -44,12 +44,11 @@ jetHeard s i j t = record {
 
 -- what the records taken say of the jet
 abbrev pub jetHistory : ℕ → ℕ → ℕ → List Heard → List JetRecord
-jetHistory s i j [] = []
-jetHistory s i j (t ∷ ts) = jetHeard s i j t ∷ jetHistory s i j ts
+jetHistory s i j ts = historyBy (jetHeard s i j) ts
 
 -- module m: "for each module fuel then oxidizer, 2 bytes each", "held until the next taken major record; all 0 when fresh"
 abbrev pub bankHeard : ℕ → List Heard → Bank
 bankHeard m [] = noBank
 bankHeard m (t ∷ ts) =
-    cond (eqb (length (t .bytes)) 615)
+    cond (eqb (getD (t .bytes) 1 0) 0x4A)
     (weighed (record { fuel = two (t .bytes) (601 + 4 * m); oxidizer = two (t .bytes) (603 + 4 * m) })) (bankHeard m ts)

@@ -3,8 +3,8 @@ pub mod Bytes
 pub mod Format
 pub mod Good
 pub mod Reader
-pub mod Inside
 pub mod Values
+pub mod Step
 pub mod Report
 pub mod Settled
 pub mod Call
@@ -16,4 +16,4 @@ pub mod CloseShown
 pub mod Batch
 pub mod PutIn
 pub mod Masks
-pub mod Turn
+pub mod Inside

@@ -1,14 +1,11 @@
 -- 01, "The feed": the reader, over lists of bytes. Assumes nothing.
-use mathlib.Core.Path.{_≡_}
-use mathlib.Core.Bool.{Bool, true, false, cond}
+use mathlib.Core.Bool.{cond}
 use mathlib.Core.List.{List, [], _∷_, _++_}
-use Prim.Native.Nat.{ℕ, _-_, _≤_}
+use Prim.Native.Nat.{ℕ, _-_}
 use lib.Dec.{ltb}
-use lib.ListN.{length, take, drop, replicate}
+use lib.ListN.{length, take, replicate}
 use Rattle.feed.specs.Size.{storeLength, mostHeld}
-use Rattle.feed.specs.Format.{look}
-use Rattle.feed.specs.declared.format.Kind.{Kind}
-use Rattle.feed.specs.declared.format.Kind.the-variants.{NoKind, Minor, Major}
+use Rattle.feed.specs.Format.{look, settles}
 use Rattle.feed.specs.declared.format.Look.{Look}
 use Rattle.feed.specs.declared.format.Look.the-variants.{Drops, Waits, Loses, Settles}
 
@@ -24,23 +21,10 @@ unfoldable pub settle : List ℕ → List ℕ
 settle [] = []
 settle (a ∷ l) = let rest = settle l in keptBy (look (a ∷ l)) (a ∷ l) rest
 
--- the kind of the record that a look settles; NoKind: none
-abbrev pub shown : Look → Kind
-shown Drops = NoKind
-shown Waits = NoKind
-shown Loses = NoKind
-shown (Settles k) = k
-
 -- where a call stops: the bytes then held, which begin with the settled record if there is one, and the rest of the piece
 pub record Stop : Type 0 where
   pub left : List ℕ
   pub rest : List ℕ
-
--- a record is there, or bytes go on being taken
-abbrev pub stopBy : Kind → Stop → Stop → Stop
-stopBy NoKind found more = more
-stopBy Minor found more = found
-stopBy Major found more = found
 
 -- "It first settles what it already holds, then takes bytes one by one, and stops at the first record settled or at the end of the piece."
 unfoldable pub reads : List ℕ → List ℕ → Stop
@@ -48,7 +32,7 @@ reads h [] = record { left = settle h; rest = [] }
 reads h (b ∷ p) =
     let l = settle h in
     let more = reads (l ++ (b ∷ [])) p in
-    stopBy (shown (look l)) (record { left = l; rest = b ∷ p }) more
+    cond (settles (look l)) (record { left = l; rest = b ∷ p }) more
 
 -- "The places of the store after the held bytes are 0."
 abbrev pub store : List ℕ → List ℕ

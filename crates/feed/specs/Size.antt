@@ -1,5 +1,7 @@
--- The sizes and limits of 01, "The feed" and "Which answer a record gets", each under one name; src/size.rt says the same. Assumes nothing.
-use Prim.Native.Nat.{ℕ, _-_}
+-- The sizes and limits of 01, "The feed" and "Which answer a record gets", each under one name; src/size.rt says the same. Lengths and
+-- places follow from the parts; that they are the numbers that 01 writes is said in proofs/Numerals. Assumes nothing.
+use Prim.Native.Nat.{ℕ, _+_, _-_, _*_}
+use Rattle.cycle.specs.Size.{stringCount, jetCount, manifoldCount, moduleCount}
 
 -- "mark 52 4D (hex)", "mark 52 4A"; a report begins 52 52
 abbrev pub markByte : ℕ
@@ -11,12 +13,25 @@ minorMark = 0x4D
 abbrev pub majorMark : ℕ
 majorMark = 0x4A
 
--- "Minor record, 59 bytes", "Major record, 615 bytes"
-abbrev pub minorLength : ℕ
-minorLength = 59
+-- "a two-byte mark"
+abbrev pub markLength : ℕ
+markLength = 2
 
-abbrev pub majorLength : ℕ
-majorLength = 615
+-- "commanded C (4)": a word
+abbrev pub wordLength : ℕ
+wordLength = 4
+
+-- "wire cycle, 2 bytes"
+abbrev pub wireLength : ℕ
+wireLength = 2
+
+-- "512 bytes of injector temperatures (.. fuel word then oxidizer word)": 2 bytes a word
+abbrev pub temperatureLength : ℕ
+temperatureLength = 2
+
+-- "fuel then oxidizer, 2 bytes each"
+abbrev pub quantityLength : ℕ
+quantityLength = 2
 
 -- "sum, 2 bytes"
 abbrev pub sumLength : ℕ
@@ -26,9 +41,70 @@ sumLength = 2
 abbrev pub sumSpan : ℕ
 sumSpan = 65536
 
--- "Between calls the reader never holds more than 614 bytes"
+-- "mark 52 4D (hex); wire cycle, 2 bytes; path byte ..; for each string 13 bytes: commanded C (4), pressure P (4), driver D (4),
+-- valve-open V (1; ..)"
+abbrev pub wireAt : ℕ
+wireAt = markLength
+
+abbrev pub pathAt : ℕ
+pathAt = wireAt + wireLength
+
+abbrev pub samplesFrom : ℕ
+samplesFrom = pathAt + 1
+
+abbrev pub valvesIn : ℕ
+valvesIn = 3 * wordLength
+
+abbrev pub sampleLength : ℕ
+sampleLength = valvesIn + 1
+
+-- "sum, 2 bytes: all earlier bytes of the record"
+abbrev pub minorSummed : ℕ
+minorSummed = samplesFrom + stringCount * sampleLength
+
+-- "Minor record, 59 bytes"
+abbrev pub minorLength : ℕ
+minorLength = minorSummed + sumLength
+
+-- "the same 55 bytes after the mark; 512 bytes of injector temperatures (string by string, jet by jet, fuel word then oxidizer word)"
+abbrev pub temperaturesFrom : ℕ
+temperaturesFrom = minorSummed
+
+abbrev pub temperatureCount : ℕ
+temperatureCount = 2 * jetCount
+
+abbrev pub temperaturesLength : ℕ
+temperaturesLength = temperatureCount * temperatureLength
+
+-- "for each string an inhibit word and a re-enable word (4 bytes each)"
+abbrev pub requestsFrom : ℕ
+requestsFrom = temperaturesFrom + stringCount * temperaturesLength
+
+abbrev pub requestsLength : ℕ
+requestsLength = 2 * wordLength
+
+-- "for each module fuel then oxidizer, 2 bytes each"
+abbrev pub quantitiesFrom : ℕ
+quantitiesFrom = requestsFrom + stringCount * requestsLength
+
+abbrev pub quantitiesLength : ℕ
+quantitiesLength = 2 * quantityLength
+
+-- "the sum"
+abbrev pub majorSummed : ℕ
+majorSummed = quantitiesFrom + moduleCount * quantitiesLength
+
+-- "Major record, 615 bytes"
+abbrev pub majorLength : ℕ
+majorLength = majorSummed + sumLength
+
+-- no record is shorter
+abbrev pub leastLength : ℕ
+leastLength = minorLength
+
+-- none is longer; "Between calls the reader never holds more than 614 bytes"
 abbrev pub storeLength : ℕ
-storeLength = 615
+storeLength = majorLength
 
 abbrev pub mostHeld : ℕ
 mostHeld = storeLength - 1
@@ -41,59 +117,49 @@ reservedFrom = 16
 abbrev pub mostQuantity : ℕ
 mostQuantity = 1000
 
--- "Report, 34 bytes"; answer 5: "outbox under 34 bytes"
-abbrev pub reportLength : ℕ
-reportLength = 34
+-- "52 52; answer; n after it (4)"
+abbrev pub answerAt : ℕ
+answerAt = markLength
 
-abbrev pub outboxNeeded : ℕ
-outboxNeeded = 34
+abbrev pub countAt : ℕ
+countAt = answerAt + 1
 
--- "Each string's five bytes are written into their own part of the outbox", after mark, answer and n
+abbrev pub countLength : ℕ
+countLength = 4
+
+-- "Each string's five bytes are written into their own part of the outbox"
 abbrev pub stringsFrom : ℕ
-stringsFrom = 7
+stringsFrom = countAt + countLength
 
+-- "for each string the fail word (4) and close byte (1)"
 abbrev pub stringPart : ℕ
-stringPart = 5
+stringPart = wordLength + 1
 
--- where the balance byte stands
+-- "balance byte; three lesser quantities (2 each)"
 abbrev pub balanceAt : ℕ
-balanceAt = 27
+balanceAt = stringsFrom + stringCount * stringPart
 
--- where the parts of a record stand: the path byte, "for each string 13 bytes", "512 bytes of injector temperatures (string by string ..)",
--- "for each string an inhibit word and a re-enable word (4 bytes each)", "for each module fuel then oxidizer, 2 bytes each"
-abbrev pub pathAt : ℕ
-pathAt = 4
+abbrev pub lesserFrom : ℕ
+lesserFrom = balanceAt + 1
 
-abbrev pub samplesFrom : ℕ
-samplesFrom = 5
+abbrev pub lesserLength : ℕ
+lesserLength = quantityLength
 
-abbrev pub sampleLength : ℕ
-sampleLength = 13
+-- "bit 4+m if its oxidizer is the lesser"
+abbrev pub oxidizerFrom : ℕ
+oxidizerFrom = 4
 
-abbrev pub temperaturesFrom : ℕ
-temperaturesFrom = 57
+-- "Report, 34 bytes"
+abbrev pub reportLength : ℕ
+reportLength = lesserFrom + moduleCount * lesserLength
 
-abbrev pub temperaturesLength : ℕ
-temperaturesLength = 128
+-- answer 5: "outbox under 34 bytes"
+abbrev pub outboxNeeded : ℕ
+outboxNeeded = reportLength
 
-abbrev pub temperatureCount : ℕ
-temperatureCount = 64
-
-abbrev pub requestsFrom : ℕ
-requestsFrom = 569
-
-abbrev pub requestsLength : ℕ
-requestsLength = 8
-
-abbrev pub quantitiesFrom : ℕ
-quantitiesFrom = 601
-
-abbrev pub quantitiesLength : ℕ
-quantitiesLength = 4
-
--- "the sixteen masks (64 bytes, ..)": 16 bytes a string
-abbrev pub mapLength : ℕ
-mapLength = 64
-
+-- "the sixteen masks (64 bytes, ..)": a word for each manifold of each string
 abbrev pub masksLength : ℕ
-masksLength = 16
+masksLength = manifoldCount * wordLength
+
+abbrev pub mapLength : ℕ
+mapLength = stringCount * masksLength

@@ -8,8 +8,7 @@ use Rattle.bits.specs.Bit.{bit, any}
 use Rattle.cycle.specs.Size.{stringCount, jetCount, manifoldCount, moduleCount}
 use Rattle.cycle.specs.Answers.{numberOf}
 use Rattle.cycle.specs.Jets.{run, hasAsked}
-use Rattle.cycle.specs.Hall.{masksOf}
-use Rattle.cycle.specs.Proper.{inMask}
+use Rattle.cycle.specs.Map.{masksOf, inMask}
 use Rattle.cycle.specs.declared.answer.Answer.{Answer}
 use Rattle.cycle.specs.declared.map.Masks.{Masks}
 use Rattle.feed.specs.Bytes.{two, four}

@@ -1,12 +1,11 @@
 -- 01, "The feed": the values that a record carries, as the cycle rules take them; nothing is stripped. Assumes nothing.
-use mathlib.Core.Bool.{Bool, true, false}
-use mathlib.Core.List.{List, []}
+use mathlib.Core.Bool.{cond}
+use mathlib.Core.List.{List}
 use Prim.Native.Nat.{ℕ, _+_, _*_}
-use lib.ListN.{getD, replicate}
+use lib.Dec.{eqb}
+use lib.ListN.{getD}
 use Rattle.cycle.specs.Size.{stringCount, moduleCount}
-use Rattle.cycle.specs.Each.{each}
-use Rattle.cycle.specs.Banks.{noQuantities}
-use Rattle.cycle.specs.Hall.{noSample, noTemperatures, noRequests}
+use Rattle.cycle.specs.Each.{table}
 use Rattle.cycle.specs.Records.{Record, minor, major}
 use Rattle.cycle.specs.declared.values.Sample.{Sample}
 use Rattle.cycle.specs.declared.values.Minor.{Minor}
@@ -14,69 +13,60 @@ use Rattle.cycle.specs.declared.values.Temperatures.{Temperatures}
 use Rattle.cycle.specs.declared.values.Requests.{Requests}
 use Rattle.cycle.specs.declared.values.Quantities.{Quantities}
 use Rattle.cycle.specs.declared.values.Major.{Major}
-use Rattle.feed.specs.Size.{pathAt, samplesFrom, sampleLength, temperaturesFrom, temperaturesLength, temperatureCount, requestsFrom}
-use Rattle.feed.specs.Size.{requestsLength, quantitiesFrom, quantitiesLength}
+use Rattle.feed.specs.Size.{wordLength, temperatureLength, quantityLength, wireAt, pathAt, samplesFrom, valvesIn, sampleLength}
+use Rattle.feed.specs.Size.{temperaturesFrom, temperatureCount, temperaturesLength, requestsFrom, requestsLength, quantitiesFrom}
+use Rattle.feed.specs.Size.{quantitiesLength, majorMark}
 use Rattle.feed.specs.Bytes.{two, four}
-use Rattle.feed.specs.declared.format.Kind.{Kind}
-use Rattle.feed.specs.declared.format.Kind.the-variants.{NoKind, Minor as MinorKind, Major as MajorKind}
 
 -- "for each string 13 bytes: commanded C (4), pressure P (4), driver D (4), valve-open V (1; ..)"
 abbrev pub sampleAt : List ℕ → ℕ → Sample
-sampleAt l i = record { commanded = four l i; pressure = four l (i + 4); driver = four l (i + 8); valves = getD l (i + 12) 0 }
+sampleAt l i = record {
+  commanded = four l i;
+  pressure = four l (i + wordLength);
+  driver = four l (i + 2 * wordLength);
+  valves = getD l (i + valvesIn) 0;
+}
 
--- of the lowest n strings
-unfoldable pub samplesOf : ℕ → List ℕ → List Sample
-samplesOf n l = each n (λ s x. sampleAt l (samplesFrom + sampleLength * s)) noSample (replicate stringCount noSample)
+unfoldable pub samplesOf : List ℕ → List Sample
+samplesOf l = table stringCount (λ s. sampleAt l (samplesFrom + sampleLength * s))
 
 -- "wire cycle, 2 bytes; path byte"
 unfoldable pub minorOf : List ℕ → Minor
-minorOf l = record { wire = two l 2; path = getD l pathAt 0; samples = samplesOf stringCount l }
+minorOf l = record { wire = two l wireAt; path = getD l pathAt 0; samples = samplesOf l }
 
--- "string by string, jet by jet, fuel word then oxidizer word": the lowest n words of the string whose words begin at place i
-unfoldable pub wordsAt : ℕ → List ℕ → ℕ → List ℕ
-wordsAt n l i = each n (λ k x. two l (i + 2 * k)) 0 (replicate temperatureCount 0)
+-- "string by string, jet by jet, fuel word then oxidizer word": the words of the string whose words begin at place i
+unfoldable pub wordsAt : List ℕ → ℕ → List ℕ
+wordsAt l i = table temperatureCount (λ k. two l (i + temperatureLength * k))
 
 abbrev pub temperaturesAt : List ℕ → ℕ → Temperatures
-temperaturesAt l i = record { words = wordsAt temperatureCount l i }
+temperaturesAt l i = record { words = wordsAt l i }
 
-abbrev pub zeroTemperatures : Temperatures
-zeroTemperatures = record { words = replicate temperatureCount 0 }
-
-unfoldable pub temperaturesOf : ℕ → List ℕ → List Temperatures
-temperaturesOf n l =
-    each n (λ s x. temperaturesAt l (temperaturesFrom + temperaturesLength * s)) noTemperatures (replicate stringCount zeroTemperatures)
+unfoldable pub temperaturesOf : List ℕ → List Temperatures
+temperaturesOf l = table stringCount (λ s. temperaturesAt l (temperaturesFrom + temperaturesLength * s))
 
 -- "for each string an inhibit word and a re-enable word (4 bytes each)"
 abbrev pub requestsAt : List ℕ → ℕ → Requests
-requestsAt l i = record { inhibit = four l i; reenable = four l (i + 4) }
+requestsAt l i = record { inhibit = four l i; reenable = four l (i + wordLength) }
 
-unfoldable pub requestsOf : ℕ → List ℕ → List Requests
-requestsOf n l = each n (λ s x. requestsAt l (requestsFrom + requestsLength * s)) noRequests (replicate stringCount noRequests)
+unfoldable pub requestsOf : List ℕ → List Requests
+requestsOf l = table stringCount (λ s. requestsAt l (requestsFrom + requestsLength * s))
 
 -- "for each module fuel then oxidizer, 2 bytes each"
 abbrev pub quantitiesAt : List ℕ → ℕ → Quantities
-quantitiesAt l i = record { fuel = two l i; oxidizer = two l (i + 2) }
+quantitiesAt l i = record { fuel = two l i; oxidizer = two l (i + quantityLength) }
 
-unfoldable pub quantitiesOf : ℕ → List ℕ → List Quantities
-quantitiesOf n l =
-    each n (λ m x. quantitiesAt l (quantitiesFrom + quantitiesLength * m)) noQuantities (replicate moduleCount noQuantities)
+unfoldable pub quantitiesOf : List ℕ → List Quantities
+quantitiesOf l = table moduleCount (λ m. quantitiesAt l (quantitiesFrom + quantitiesLength * m))
 
 -- "the same 55 bytes after the mark", and the rest
 unfoldable pub majorOf : List ℕ → Major
 majorOf l = record {
   minor = minorOf l;
-  temperatures = temperaturesOf stringCount l;
-  requests = requestsOf stringCount l;
-  quantities = quantitiesOf moduleCount l;
+  temperatures = temperaturesOf l;
+  requests = requestsOf l;
+  quantities = quantitiesOf l;
 }
 
--- by the table of kinds
-unfoldable pub valuesOf : Kind → List ℕ → Record
-valuesOf NoKind l = minor (minorOf l)
-valuesOf MinorKind l = minor (minorOf l)
-valuesOf MajorKind l = major (majorOf l)
-
-abbrev pub majorOfKinds : Kind → Bool
-majorOfKinds NoKind = false
-majorOfKinds MinorKind = false
-majorOfKinds MajorKind = true
+-- a record's kind is told by its mark
+unfoldable pub valuesOf : List ℕ → Record
+valuesOf l = cond (eqb (getD l 1 0) majorMark) (major (majorOf l)) (minor (minorOf l))

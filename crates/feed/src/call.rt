@@ -1,19 +1,14 @@
 // The monitor and its call; and the run that hands a piece on until it is used up.
 ghost use mathlib.Core.Path.{_≡_};
 ghost use mathlib.Core.Bool.{true, false};
-ghost use Prim.Native.Nat.{_≤_, _/_};
-ghost use lib.ListN.{length, take, drop};
-ghost use Rattle.cycle.specs.Hall.{stepped};
-ghost use Rattle.feed.specs.Size.{minorLength, storeLength, mostHeld, reportLength};
-ghost use Rattle.feed.specs.Format.{lengthOf};
+ghost use Prim.Native.Nat.{_+_, _≤_};
+ghost use lib.ListN.{length, take};
+ghost use Rattle.feed.specs.Size.{storeLength, mostHeld, outboxNeeded};
 ghost use Rattle.feed.specs.Reader.{store};
-ghost use Rattle.feed.specs.Values.{valuesOf, majorOfKinds};
-ghost use Rattle.feed.specs.Call.{holding, called, call, startedOver, runs, Ran-by};
+ghost use Rattle.feed.specs.Step.{isWhole, stepOf};
+ghost use Rattle.feed.specs.Call.{call, startedOver, runs, Ran-by};
 ghost use Rattle.feed.specs.Masks.{startedFrom};
-ghost use Rattle.feed.specs.Turn.{foundIn, leftCount, leftBytes, Turns};
-use crate::bytes::two_at;
-use crate::format::Kind;
-use crate::format::length_of;
+ghost use Rattle.feed.specs.Inside.Turn.{foundIn, leftCount, leftBytes, Turn};
 use crate::masks::masks_of;
 use crate::reader::clear;
 use crate::reader::find;
@@ -24,15 +19,12 @@ use crate::size::MAP;
 use crate::size::OUTBOX_NEEDED;
 use crate::size::REPORT;
 use crate::size::STORE;
-use crate::values::major_of;
-use crate::values::minor_of;
+use crate::step::step_whole;
 use cycle::answer::Answer;
 use cycle::hall::Hall;
 use cycle::hall::Stepped;
 use cycle::hall::start;
 use cycle::map::Masks;
-use cycle::number::Verdict;
-use cycle::number::judged;
 use cycle::size::STRINGS;
 
 // The hall, and the tail of the feed: only the first `count` bytes of `held` count.
@@ -66,74 +58,43 @@ pub struct Turned {
     pub used: usize,
 }
 
-// The bytes from the record found on: in the store, or in the piece from `at` on.
-fn found_bytes<'a>(b: &'a [u8], piece: &'a [u8], held: bool, at: usize) -> &'a [u8]
-    requires { ⌜ (held ≡ false → at ≤ length (now piece)) ⌝ }
-    ensures { λ r. ⌜ now r ≡ foundIn held at (now (b .entry)) (now (piece .entry)) ⌝ }
+// The bytes of the record found: in the store, or in the piece from `at` on.
+fn found_bytes<'a>(b: &'a [u8], piece: &'a [u8], held: bool, at: usize, long: usize) -> &'a [u8]
+    requires { ⌜ (held ≡ true → long ≤ length (now b)) × (held ≡ false → at + long ≤ length (now piece)) ⌝ }
+    ensures { λ r. ⌜ now r ≡ foundIn held at long (now (b .entry)) (now (piece .entry)) ⌝ }
 {
-    if held { b } else { &piece[at..] }
-}
-
-// Is the record of the major kind?
-pub fn is_major(k: Kind) -> bool
-    ensures { λ r. ⌜ r ≡ majorOfKinds k ⌝ }
-{
-    match k {
-        Kind::NoKind => false,
-        Kind::Minor => false,
-        Kind::Major => true,
+    if held {
+        &b[..long]
+    } else {
+        &piece[at..at + long]
     }
 }
 
 // The record found steps the hall.
 fn step_found<'a>(
     hall: Hall,
-    kind: Kind,
     b: &'a [u8],
     piece: &'a [u8],
     held: bool,
     at: usize,
+    long: usize,
 ) -> Stepped
-    requires { ⌜ (minorLength ≤ lengthOf kind) × (lengthOf kind ≤ length (foundIn held at (now b) (now piece))) ⌝ }
-    ensures { λ r. ⌜ r ≡ stepped (valuesOf kind (foundIn held at (now (b .entry)) (now (piece .entry)))) hall ⌝ }
+    requires { ⌜ (held ≡ true → long ≤ length (now b)) × (held ≡ false → at + long ≤ length (now piece)) ⌝ }
+    requires { ⌜ isWhole (foundIn held at long (now b) (now piece)) ≡ true ⌝ }
+    ensures { λ r. ⌜ r ≡ stepOf (foundIn held at long (now (b .entry)) (now (piece .entry))) hall ⌝ }
 {
-    let s = found_bytes(b, piece, held, at);
-    let major = is_major(kind);
-    let v = judged(hall.n, two_at(s, 2), major);
-    match v {
-        Verdict::Takes(next) => {
-            let r = minor_of(s);
-            let h = hall.minor_taken(r, next);
-            if major {
-                let q = major_of(s, r);
-                Stepped {
-                    answer: Answer::Taken,
-                    hall: h.major_taken(q),
-                }
-            } else {
-                Stepped {
-                    answer: Answer::Taken,
-                    hall: h,
-                }
-            }
-        }
-        Verdict::Refuses(answer) => Stepped {
-            answer: answer,
-            hall: hall,
-        },
-    }
+    step_whole(hall, found_bytes(b, piece, held, at, long))
 }
 
 // The settled record leaves the store, if it is there.
-fn removed(b: &mut [u8], held: bool, count: usize, kind: Kind) -> usize
+fn removed(b: &mut [u8], held: bool, count: usize, long: usize) -> usize
     requires { ⌜ count ≤ length (now b) ⌝ }
-    requires { ⌜ (held ≡ true → lengthOf kind ≤ count) ⌝ }
-    ensures { λ r. ⌜ (r ≡ leftCount held kind count) × (now (b .exit) ≡ leftBytes held kind count (now (b .entry))) ⌝ }
+    requires { ⌜ (held ≡ true → long ≤ count) ⌝ }
+    ensures { λ r. ⌜ (r ≡ leftCount held long count) × (now (b .exit) ≡ leftBytes held long count (now (b .entry))) ⌝ }
 {
     if held {
-        let k = length_of(kind);
-        shift(&mut b[..count], k);
-        count - k
+        shift(&mut b[..count], long);
+        count - long
     } else {
         count
     }
@@ -142,15 +103,16 @@ fn removed(b: &mut [u8], held: bool, count: usize, kind: Kind) -> usize
 // One record settled, answered and reported, or none: a call on a store that is in order, with bytes of the piece from `from` on.
 fn turn(hall: Hall, b: &mut [u8], count: usize, piece: &[u8], from: usize, out: &mut [u8]) -> Turned
     requires { ⌜ length (now b) ≡ storeLength ⌝ }
-    requires { ⌜ (count ≤ mostHeld) × (now b ≡ store (take count (now b))) × (from ≤ length (now piece)) × (reportLength ≤ length (now out)) ⌝ }
-    ensures { λ r. ⌜ Turns (called (holding hall (take count (now (b .entry)))) (drop from (now (piece .entry))) (now (out .entry))) from r (now (b .exit)) (now (out .exit)) ⌝ }
+    requires { ⌜ (count ≤ mostHeld) × (now b ≡ store (take count (now b))) ⌝ }
+    requires { ⌜ (from ≤ length (now piece)) × (outboxNeeded ≤ length (now out)) ⌝ }
+    ensures { λ r. ⌜ Turn hall count from (now (b .entry)) (now (piece .entry)) (now (out .entry)) r (now (b .exit)) (now (out .exit)) ⌝ }
 {
     let f = find(b, count, piece, from);
-    let kind = f.kind;
+    let long = f.long;
     let held = f.held;
     let n = f.count;
     let at = f.at;
-    if length_of(kind) == 0 {
+    if long == 0 {
         return Turned {
             settled: false,
             answer: Answer::NothingSettled,
@@ -159,11 +121,11 @@ fn turn(hall: Hall, b: &mut [u8], count: usize, piece: &[u8], from: usize, out: 
             used: f.used,
         };
     }
-    let x = step_found(hall, kind, b, piece, held, at);
+    let x = step_found(hall, b, piece, held, at, long);
     let answer = x.answer;
     let h = x.hall;
     write_report(out, answer, h);
-    let left = removed(b, held, n, kind);
+    let left = removed(b, held, n, long);
     Turned {
         settled: true,
         answer: answer,
@@ -220,7 +182,8 @@ impl Monitor {
 
     // One call.
     pub fn call(self, piece: &[u8], out: &mut [u8]) -> Outcome
-        ensures { λ r. ⌜ (r ≡ call self (now (piece .entry)) (now (out .entry)) .outcome) × (now (out .exit) ≡ call self (now (piece .entry)) (now (out .entry)) .outbox) ⌝ }
+        ensures { λ r. ⌜ r ≡ call self (now (piece .entry)) (now (out .entry)) .outcome ⌝ }
+        ensures { λ r. ⌜ now (out .exit) ≡ call self (now (piece .entry)) (now (out .entry)) .outbox ⌝ }
     {
         if out.len() < OUTBOX_NEEDED {
             return Outcome {
@@ -248,11 +211,11 @@ impl Monitor {
         }
     }
 
-    // Calls, one after the other, each with the next 34 bytes of the outbox, until one settles nothing or there is no room for a report.
+    // Calls, one after the other, each with the rest of the outbox, until one settles nothing or there is no room for a call.
     pub fn run(self, piece: &[u8], out: &mut [u8]) -> Ran
-        ensures { λ r. ⌜ Ran-by (runs (length (now (out .entry)) / reportLength) self (now (piece .entry))) (now (out .entry)) r (now (out .exit)) ⌝ }
+        ensures { λ r. ⌜ Ran-by (runs (length (now (out .entry))) self (now (piece .entry))) (now (out .entry)) r (now (out .exit)) ⌝ }
     {
-        if out.len() < REPORT {
+        if out.len() < OUTBOX_NEEDED {
             return Ran {
                 used: 0,
                 written: 0,
@@ -266,7 +229,7 @@ impl Monitor {
         clear(&mut b[count..]);
         let mut used: usize = 0;
         let mut written: usize = 0;
-        while REPORT <= out.len() - written {
+        while OUTBOX_NEEDED <= out.len() - written {
             let t = turn(hall, &mut b[..], count, piece, used, &mut out[written..]);
             let next = t.hall;
             hall = next;

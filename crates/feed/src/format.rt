@@ -1,9 +1,10 @@
 // The record format: marks, lengths, sum, reserved bits, quantities; and what the bytes at the front of the reader are.
 ghost use mathlib.Core.Path.{_≡_};
-ghost use Prim.Native.Nat.{_≤_};
+ghost use Prim.Native.Nat.{_+_, _≤_};
 ghost use lib.ListN.{length};
-ghost use Rattle.feed.specs.Size.{minorLength, majorLength};
-ghost use Rattle.feed.specs.Format.{kindOf, lengthOf, sumOf, reservedZero, quantitiesRight, goodMinor, goodMajor, look};
+ghost use Rattle.feed.specs.Size.{minorLength, majorLength, quantitiesLength};
+ghost use Rattle.feed.specs.Format.{markOf, lengthOf, lengthMarked, sumOf, reservedZero, twoRight, quantitiesRight};
+ghost use Rattle.feed.specs.Format.{goodMinor, goodMajor, goodKind, fullLook, look};
 use crate::bytes::two_at;
 use crate::bytes::wide16;
 use crate::size::MAJOR_LENGTH;
@@ -14,13 +15,27 @@ use crate::size::MINOR_LENGTH;
 use crate::size::MINOR_MARK;
 use crate::size::MINOR_SUMMED;
 use crate::size::MOST_QUANTITY;
+use crate::size::PATH_AT;
+use crate::size::QUANTITIES_FROM;
+use crate::size::QUANTITIES_LENGTH;
+use crate::size::QUANTITY_LENGTH;
 use crate::size::RESERVED_FROM;
+use crate::size::SAMPLE_LENGTH;
+use crate::size::SAMPLES_FROM;
+use crate::size::VALVES_IN;
+use cycle::size::MODULES;
+use cycle::size::STRINGS;
 
-// The kinds of records; NoKind: the second byte makes no mark.
+// The kinds of records. Their rows: `mark_of`, `length_of` and `good`.
 pub enum Kind {
-    NoKind,
     Minor,
     Major,
+}
+
+// What the second byte makes of a mark: none, or the mark of a kind.
+pub enum Mark {
+    NoMark,
+    Of(Kind),
 }
 
 // What the oldest byte held is: it cannot begin a mark and is dropped; it begins a mark, or a record that is not complete; it begins a full
@@ -32,27 +47,36 @@ pub enum Look {
     Settles(Kind),
 }
 
-// The kind that the second byte of a mark announces.
-pub fn kind_of(b: u8) -> Kind
-    ensures { λ r. ⌜ r ≡ kindOf b ⌝ }
+// What this second byte makes of a mark.
+pub(crate) fn mark_of(b: u8) -> Mark
+    ensures { λ r. ⌜ r ≡ markOf b ⌝ }
 {
     if b == MINOR_MARK {
-        return Kind::Minor;
+        return Mark::Of(Kind::Minor);
     }
     if b == MAJOR_MARK {
-        return Kind::Major;
+        return Mark::Of(Kind::Major);
     }
-    Kind::NoKind
+    Mark::NoMark
 }
 
 // A record's length by its kind.
-pub fn length_of(k: Kind) -> usize
+pub(crate) fn length_of(k: Kind) -> usize
     ensures { λ r. ⌜ r ≡ lengthOf k ⌝ }
 {
     match k {
-        Kind::NoKind => 0,
         Kind::Minor => MINOR_LENGTH,
         Kind::Major => MAJOR_LENGTH,
+    }
+}
+
+// The length that a mark announces, 0 where there is none.
+pub(crate) fn length_marked(m: Mark) -> usize
+    ensures { λ r. ⌜ r ≡ lengthMarked m ⌝ }
+{
+    match m {
+        Mark::NoMark => 0,
+        Mark::Of(k) => length_of(k),
     }
 }
 
@@ -69,47 +93,40 @@ pub fn sum(s: &[u8]) -> u16
     t
 }
 
-// Are the reserved bits of the path byte and of the four valve bytes zero?
+// Are the reserved bits of the path byte and of every string's valve byte zero?
 fn reserved_zero(s: &[u8]) -> bool
     requires { ⌜ minorLength ≤ length (now s) ⌝ }
     ensures { λ r. ⌜ r ≡ reservedZero (now (s .entry)) ⌝ }
 {
-    if RESERVED_FROM <= s[4] {
-        return false;
+    let mut valves = true;
+    let mut k: usize = 0;
+    while k < STRINGS {
+        valves = valves & (s[SAMPLES_FROM + SAMPLE_LENGTH * k + VALVES_IN] < RESERVED_FROM);
+        k += 1;
     }
-    if RESERVED_FROM <= s[17] {
-        return false;
-    }
-    if RESERVED_FROM <= s[30] {
-        return false;
-    }
-    if RESERVED_FROM <= s[43] {
-        return false;
-    }
-    s[56] < RESERVED_FROM
+    (s[PATH_AT] < RESERVED_FROM) & valves
 }
 
-// Are the six quantities at most 1,000?
+// Are the two quantities from `i` on at most 1,000?
+fn module_right(s: &[u8], i: usize) -> bool
+    requires { ⌜ i + quantitiesLength ≤ length (now s) ⌝ }
+    ensures { λ r. ⌜ r ≡ twoRight (now (s .entry)) i ⌝ }
+{
+    (two_at(s, i) <= MOST_QUANTITY) & (two_at(s, i + QUANTITY_LENGTH) <= MOST_QUANTITY)
+}
+
+// Are every module's quantities at most 1,000?
 fn quantities_right(s: &[u8]) -> bool
     requires { ⌜ majorLength ≤ length (now s) ⌝ }
     ensures { λ r. ⌜ r ≡ quantitiesRight (now (s .entry)) ⌝ }
 {
-    if MOST_QUANTITY < two_at(s, 601) {
-        return false;
+    let mut right = true;
+    let mut m: usize = 0;
+    while m < MODULES {
+        right = right & module_right(s, QUANTITIES_FROM + QUANTITIES_LENGTH * m);
+        m += 1;
     }
-    if MOST_QUANTITY < two_at(s, 603) {
-        return false;
-    }
-    if MOST_QUANTITY < two_at(s, 605) {
-        return false;
-    }
-    if MOST_QUANTITY < two_at(s, 607) {
-        return false;
-    }
-    if MOST_QUANTITY < two_at(s, 609) {
-        return false;
-    }
-    two_at(s, 611) <= MOST_QUANTITY
+    right
 }
 
 // Is the full minor record at the front good?
@@ -138,8 +155,32 @@ fn good_major(s: &[u8]) -> bool
     quantities_right(s)
 }
 
+// Is the full record of this kind at the front good?
+fn good(k: Kind, s: &[u8]) -> bool
+    requires { ⌜ lengthOf k ≤ length (now s) ⌝ }
+    ensures { λ r. ⌜ r ≡ goodKind k (now (s .entry)) ⌝ }
+{
+    match k {
+        Kind::Minor => good_minor(s),
+        Kind::Major => good_major(s),
+    }
+}
+
+// What a mark of this kind at the front shows.
+fn full_look(k: Kind, s: &[u8]) -> Look
+    ensures { λ r. ⌜ r ≡ fullLook k (now (s .entry)) ⌝ }
+{
+    if s.len() < length_of(k) {
+        return Look::Waits;
+    }
+    if good(k, s) {
+        return Look::Settles(k);
+    }
+    Look::Loses
+}
+
 // What the bytes at the front show.
-pub fn look_at(s: &[u8]) -> Look
+pub(crate) fn look_at(s: &[u8]) -> Look
     ensures { λ r. ⌜ r ≡ look (now (s .entry)) ⌝ }
 {
     if s.len() == 0 {
@@ -151,26 +192,9 @@ pub fn look_at(s: &[u8]) -> Look
     if s.len() == 1 {
         return Look::Waits;
     }
-    let kind = kind_of(s[1]);
-    match kind {
-        Kind::NoKind => Look::Drops,
-        Kind::Minor => {
-            if s.len() < MINOR_LENGTH {
-                return Look::Waits;
-            }
-            if good_minor(s) {
-                return Look::Settles(Kind::Minor);
-            }
-            Look::Loses
-        }
-        Kind::Major => {
-            if s.len() < MAJOR_LENGTH {
-                return Look::Waits;
-            }
-            if good_major(s) {
-                return Look::Settles(Kind::Major);
-            }
-            Look::Loses
-        }
+    let mark = mark_of(s[1]);
+    match mark {
+        Mark::NoMark => Look::Drops,
+        Mark::Of(k) => full_look(k, s),
     }
 }

@@ -8,4 +8,5 @@ pub mod masks;
 pub mod reader;
 pub mod report;
 pub mod size;
+pub mod step;
 pub mod values;

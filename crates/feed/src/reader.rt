@@ -6,25 +6,27 @@ ghost use Prim.Native.Nat.{_-_, _≤_, _<_};
 ghost use lib.ListN.{length, take, drop, replicate};
 ghost use Rattle.feed.specs.Size.{storeLength, mostHeld};
 ghost use Rattle.feed.specs.Reader.{store, heldCount};
-ghost use Rattle.feed.specs.Inside.{frontOf, calmOf, Skips, filled, Finds};
-use crate::format::Kind;
+ghost use Rattle.feed.specs.Settled.{frontOf};
+ghost use Rattle.feed.specs.Inside.Finding.{calmOf, Skips, filled, Finds};
 use crate::format::Look;
-use crate::format::kind_of;
+use crate::format::length_marked;
 use crate::format::length_of;
 use crate::format::look_at;
+use crate::format::mark_of;
 use crate::size::MARK;
+use crate::size::MARK_LENGTH;
 use crate::size::MOST_HELD;
 
-// The first byte that is not dropped, and the kind of the record settled there.
+// The first byte that is not dropped, and the length of the record settled there, 0 where there is none.
 pub struct Front {
     pub at: usize,
-    pub kind: Kind,
+    pub long: usize,
 }
 
-// Where the next record is: in the store, from its first byte on, or in the piece from `at` on; how many bytes the store then holds, and
-// how many bytes of the piece are used. NoKind: nothing was settled, and what is left is in the store.
+// How long the next record is, and where: in the store, from its first byte on, or in the piece from `at` on; how many bytes the store then
+// holds, and how many bytes of the piece are used. A length of 0: nothing was settled, and what is left is in the store.
 pub struct Found {
-    pub kind: Kind,
+    pub long: usize,
     pub held: bool,
     pub at: usize,
     pub count: usize,
@@ -42,23 +44,20 @@ pub fn find_front(s: &[u8]) -> Front
                 at += 1;
             }
             Look::Waits => {
-                return Front {
-                    at: at,
-                    kind: Kind::NoKind,
-                };
+                return Front { at: at, long: 0 };
             }
             Look::Loses => {
                 at += 1; // only the first byte: a record may begin at the next
             }
             Look::Settles(k) => {
-                return Front { at: at, kind: k };
+                return Front {
+                    at: at,
+                    long: length_of(k),
+                };
             }
         }
     }
-    Front {
-        at: at,
-        kind: Kind::NoKind,
-    }
+    Front { at: at, long: 0 }
 }
 
 // The bytes from `k` on go to the front; the last `k` places stay.
@@ -76,7 +75,7 @@ fn move_down(s: &mut [u8], k: usize)
 }
 
 // Every place becomes 0.
-pub fn clear(s: &mut [u8])
+pub(crate) fn clear(s: &mut [u8])
     ensures { λ r. ⌜ now (s .exit) ≡ replicate (length (now (s .entry))) 0 ⌝ }
 {
     let mut i: usize = 0;
@@ -108,16 +107,16 @@ fn copy(to: &mut [u8], from: &[u8])
 }
 
 // How many of the next `left` bytes can be taken with no look: those that a mark at the front waits for, but the last.
-pub fn calm(s: &[u8], left: usize) -> usize
+fn calm(s: &[u8], left: usize) -> usize
     ensures { λ r. ⌜ r ≡ calmOf (now (s .entry)) left ⌝ }
 {
-    if s.len() < 2 {
+    if s.len() < MARK_LENGTH {
         return 0;
     }
     if s[0] != MARK {
         return 0;
     }
-    let n = length_of(kind_of(s[1]));
+    let n = length_marked(mark_of(s[1]));
     if n <= s.len() {
         return 0;
     }
@@ -129,7 +128,7 @@ pub fn calm(s: &[u8], left: usize) -> usize
 }
 
 // How many bytes a state that claims `count` holds.
-pub fn held_count(count: usize) -> usize
+pub(crate) fn held_count(count: usize) -> usize
     ensures { λ r. ⌜ r ≡ heldCount count ⌝ }
 {
     if MOST_HELD < count { 0 } else { count }
@@ -158,33 +157,31 @@ fn skipped(piece: &[u8], from: usize, held: usize) -> usize
 fn fill(b: &mut [u8], count: usize, piece: &[u8], from: usize) -> Found
     requires { ⌜ length (now b) ≡ storeLength ⌝ }
     requires { ⌜ (count ≤ mostHeld) × (now b ≡ store (take count (now b))) × (from ≤ length (now piece)) ⌝ }
-    ensures { λ r. ⌜ (r ≡ filled (take count (now (b .entry))) (now (piece .entry)) from .found) × (now (b .exit) ≡ filled (take count (now (b .entry))) (now (piece .entry)) from .kept) ⌝ }
+    ensures { λ r. ⌜ r ≡ filled (take count (now (b .entry))) (now (piece .entry)) from .found ⌝ }
+    ensures { λ r. ⌜ now (b .exit) ≡ filled (take count (now (b .entry))) (now (piece .entry)) from .kept ⌝ }
 {
     let mut n = count;
     let mut used = from;
     loop {
         let f = find_front(&b[..n]);
         let at = f.at;
-        let kind = f.kind;
+        let long = f.long;
         if 0 < at {
             shift(&mut b[..n], at);
             n -= at;
         }
-        match kind {
-            Kind::NoKind => {}
-            _ => {
-                return Found {
-                    kind: kind,
-                    held: true,
-                    at: 0,
-                    count: n,
-                    used: used,
-                };
-            }
+        if 0 < long {
+            return Found {
+                long: long,
+                held: true,
+                at: 0,
+                count: n,
+                used: used,
+            };
         }
         if used == piece.len() {
             return Found {
-                kind: Kind::NoKind,
+                long: 0,
                 held: true,
                 at: 0,
                 count: n,
@@ -229,18 +226,19 @@ pub(crate) fn find(b: &mut [u8], count: usize, piece: &[u8], from: usize) -> Fou
                 return fill(b, 0, piece, at);
             }
             Look::Settles(k) => {
+                let long = length_of(k);
                 return Found {
-                    kind: k,
+                    long: long,
                     held: false,
                     at: at,
                     count: 0,
-                    used: at + length_of(k),
+                    used: at + long,
                 };
             }
         }
     }
     Found {
-        kind: Kind::NoKind,
+        long: 0,
         held: true,
         at: 0,
         count: 0,

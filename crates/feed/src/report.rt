@@ -3,18 +3,23 @@ ghost use mathlib.Core.Path.{_≡_};
 ghost use mathlib.Core.List.{_++_};
 ghost use Prim.Native.Nat.{_≤_};
 ghost use lib.ListN.{length, take, drop};
-ghost use Rattle.cycle.specs.Size.{stringCount, moduleCount};
-ghost use Rattle.feed.specs.Bytes.{inTwo};
-ghost use Rattle.feed.specs.Size.{reportLength, stringsFrom, stringPart, balanceAt};
-ghost use Rattle.feed.specs.Report.{headOf, stringBytes, stringsBytes, balanceOf, banksBytes, reportOf};
-use crate::bytes::turned16;
-use crate::bytes::turned32;
+ghost use Rattle.cycle.specs.Size.{moduleCount};
+ghost use Rattle.feed.specs.Size.{stringsFrom, stringPart, balanceAt, lesserFrom, reportLength};
+ghost use Rattle.feed.specs.Report.{headOf, stringBytes, stringsBytes, balanceOf, lesserBytes, banksBytes, reportOf, fitsIn};
+ghost use Rattle.feed.specs.Report.{reportOver};
+use crate::bytes::put_four;
+use crate::bytes::put_two;
+use crate::size::ANSWER_AT;
 use crate::size::BALANCE_AT;
+use crate::size::COUNT_AT;
 use crate::size::LESSER_FROM;
 use crate::size::LESSER_LENGTH;
 use crate::size::MARK;
+use crate::size::OXIDIZER_FROM;
+use crate::size::REPORT;
 use crate::size::STRING_PART;
 use crate::size::STRINGS_FROM;
+use crate::size::WORD_LENGTH;
 use bits::with_bit;
 use cycle::answer::Answer;
 use cycle::banks::Bank;
@@ -29,12 +34,8 @@ fn put_head(s: &mut [u8], answer: u8, n: u32)
 {
     s[0] = MARK;
     s[1] = MARK;
-    s[2] = answer;
-    let w = turned32(n);
-    s[3] = (w % 256) as u8;
-    s[4] = (w / 256 % 256) as u8;
-    s[5] = (w / 65536 % 256) as u8;
-    s[6] = (w / 16777216 % 256) as u8;
+    s[ANSWER_AT] = answer;
+    put_four(&mut s[COUNT_AT..STRINGS_FROM], n);
 }
 
 // A string's five bytes, into their own part of the outbox.
@@ -42,26 +43,12 @@ fn put_string(s: &mut [u8], fail: u32, close: u32)
     requires { ⌜ length (now s) ≡ stringPart ⌝ }
     ensures { λ r. ⌜ now (s .exit) ≡ stringBytes fail close ⌝ }
 {
-    let w = turned32(fail);
-    s[0] = (w % 256) as u8;
-    s[1] = (w / 256 % 256) as u8;
-    s[2] = (w / 65536 % 256) as u8;
-    s[3] = (w / 16777216 % 256) as u8;
-    s[4] = (close % 256) as u8;
-}
-
-// A module's lesser quantity.
-fn put_lesser(s: &mut [u8], lesser: u16)
-    requires { ⌜ length (now s) ≡ 2 ⌝ }
-    ensures { λ r. ⌜ now (s .exit) ≡ inTwo lesser ⌝ }
-{
-    let w = turned16(lesser);
-    s[0] = (w % 256) as u8;
-    s[1] = (w / 256 % 256) as u8;
+    put_four(&mut s[0..WORD_LENGTH], fail);
+    s[WORD_LENGTH] = (close % 256) as u8;
 }
 
 // The balance byte's bits.
-pub fn balance_of(banks: [Bank; MODULES]) -> u32
+fn balance_of(banks: [Bank; MODULES]) -> u32
     ensures { λ r. ⌜ r ≡ balanceOf moduleCount banks ⌝ }
 {
     let mut w: u32 = 0;
@@ -69,7 +56,7 @@ pub fn balance_of(banks: [Bank; MODULES]) -> u32
     while m < MODULES {
         let b = banks[m];
         w = with_bit(w, m, b.unbalanced);
-        w = with_bit(w, 4 + m, b.oxidizer);
+        w = with_bit(w, OXIDIZER_FROM + m, b.oxidizer);
         m += 1;
     }
     w
@@ -78,7 +65,7 @@ pub fn balance_of(banks: [Bank; MODULES]) -> u32
 // The parts of all strings.
 fn put_strings(out: &mut [u8], h: Hall)
     requires { ⌜ reportLength ≤ length (now out) ⌝ }
-    ensures { λ r. ⌜ now (out .exit) ≡ take stringsFrom (now (out .entry)) ++ (stringsBytes stringCount h ++ drop balanceAt (now (out .entry))) ⌝ }
+    ensures { λ r. ⌜ now (out .exit) ≡ take stringsFrom (now (out .entry)) ++ (stringsBytes h ++ drop balanceAt (now (out .entry))) ⌝ }
 {
     let mut s: usize = 0;
     while s < STRINGS {
@@ -95,19 +82,27 @@ fn put_strings(out: &mut [u8], h: Hall)
     }
 }
 
+// The lesser quantities of all modules.
+fn put_lesser(out: &mut [u8], banks: [Bank; MODULES])
+    requires { ⌜ reportLength ≤ length (now out) ⌝ }
+    ensures { λ r. ⌜ now (out .exit) ≡ take lesserFrom (now (out .entry)) ++ (lesserBytes banks ++ drop reportLength (now (out .entry))) ⌝ }
+{
+    let mut m: usize = 0;
+    while m < MODULES {
+        let a = LESSER_FROM + LESSER_LENGTH * m;
+        let b = banks[m];
+        put_two(&mut out[a..a + LESSER_LENGTH], b.lesser);
+        m += 1;
+    }
+}
+
 // The balance byte and the lesser quantities.
 fn put_banks(out: &mut [u8], banks: [Bank; MODULES])
     requires { ⌜ reportLength ≤ length (now out) ⌝ }
     ensures { λ r. ⌜ now (out .exit) ≡ take balanceAt (now (out .entry)) ++ (banksBytes banks ++ drop reportLength (now (out .entry))) ⌝ }
 {
     out[BALANCE_AT] = (balance_of(banks) % 256) as u8;
-    let mut m: usize = 0;
-    while m < MODULES {
-        let a = LESSER_FROM + LESSER_LENGTH * m;
-        let b = banks[m];
-        put_lesser(&mut out[a..a + LESSER_LENGTH], b.lesser);
-        m += 1;
-    }
+    put_lesser(out, banks);
 }
 
 // The report of answer and hall; the bytes after it keep their values.
@@ -119,4 +114,15 @@ pub(crate) fn write_report(out: &mut [u8], answer: Answer, h: Hall)
     put_strings(out, h);
     let banks = h.banks;
     put_banks(out, banks);
+}
+
+// The same for an outbox of any length: one that is too short keeps its bytes, and the answer is no.
+pub fn put_report(out: &mut [u8], answer: Answer, h: Hall) -> bool
+    ensures { λ r. ⌜ (r ≡ fitsIn (now (out .entry))) × (now (out .exit) ≡ reportOver answer h (now (out .entry))) ⌝ }
+{
+    if out.len() < REPORT {
+        return false;
+    }
+    write_report(out, answer, h);
+    true
 }

@@ -1,21 +1,26 @@
 // The values of a record: its bytes as the cycle rules take them.
 ghost use mathlib.Core.Path.{_≡_};
-ghost use Prim.Native.Nat.{_+_, _<_, _≤_};
+ghost use Prim.Native.Nat.{_+_, _≤_};
 ghost use lib.ListN.{length};
-ghost use Rattle.cycle.specs.Size.{stringCount, moduleCount};
-ghost use Rattle.feed.specs.Size.{minorLength, majorLength, temperatureCount};
-ghost use Rattle.feed.specs.Values.{sampleAt, samplesOf, minorOf, temperaturesAt, temperaturesOf, requestsAt, requestsOf, quantitiesAt, quantitiesOf, majorOf};
+ghost use Rattle.feed.specs.Size.{sampleLength, temperaturesLength, requestsLength, quantitiesLength, minorLength, majorLength};
+ghost use Rattle.feed.specs.Values.{sampleAt, samplesOf, minorOf, temperaturesAt, temperaturesOf, requestsAt, requestsOf};
+ghost use Rattle.feed.specs.Values.{quantitiesAt, quantitiesOf, majorOf};
 use crate::bytes::four_at;
 use crate::bytes::two_at;
 use crate::size::PATH_AT;
 use crate::size::QUANTITIES_FROM;
 use crate::size::QUANTITIES_LENGTH;
+use crate::size::QUANTITY_LENGTH;
 use crate::size::REQUESTS_FROM;
 use crate::size::REQUESTS_LENGTH;
 use crate::size::SAMPLE_LENGTH;
 use crate::size::SAMPLES_FROM;
+use crate::size::TEMPERATURE_LENGTH;
 use crate::size::TEMPERATURES_FROM;
 use crate::size::TEMPERATURES_LENGTH;
+use crate::size::VALVES_IN;
+use crate::size::WIRE_AT;
+use crate::size::WORD_LENGTH;
 use cycle::size::MODULES;
 use cycle::size::STRINGS;
 use cycle::size::TEMPERATURES;
@@ -26,22 +31,22 @@ use cycle::values::Requests;
 use cycle::values::Sample;
 use cycle::values::Temperatures;
 
-// One string's 13 bytes, from `i` on.
+// One string's sample, from `i` on.
 fn sample_at(s: &[u8], i: usize) -> Sample
-    requires { ⌜ i + 12 < length (now s) ⌝ }
+    requires { ⌜ i + sampleLength ≤ length (now s) ⌝ }
     ensures { λ r. ⌜ r ≡ sampleAt (now (s .entry)) i ⌝ }
 {
     Sample {
         commanded: four_at(s, i),
-        pressure: four_at(s, i + 4),
-        driver: four_at(s, i + 8),
-        valves: s[i + 12],
+        pressure: four_at(s, i + WORD_LENGTH),
+        driver: four_at(s, i + 2 * WORD_LENGTH),
+        valves: s[i + VALVES_IN],
     }
 }
 
 fn samples_of(s: &[u8]) -> [Sample; STRINGS]
     requires { ⌜ minorLength ≤ length (now s) ⌝ }
-    ensures { λ r. ⌜ r ≡ samplesOf stringCount (now (s .entry)) ⌝ }
+    ensures { λ r. ⌜ r ≡ samplesOf (now (s .entry)) ⌝ }
 {
     let none = Sample {
         commanded: 0,
@@ -58,14 +63,14 @@ fn samples_of(s: &[u8]) -> [Sample; STRINGS]
     samples
 }
 
-// What a minor record says, and a major one in its first 57 bytes.
+// What a minor record says, and a major one in the bytes that both have.
 pub(crate) fn minor_of(s: &[u8]) -> Minor
     requires { ⌜ minorLength ≤ length (now s) ⌝ }
     ensures { λ r. ⌜ r ≡ minorOf (now (s .entry)) ⌝ }
 {
     let samples = samples_of(s);
     Minor {
-        wire: two_at(s, 2),
+        wire: two_at(s, WIRE_AT),
         path: s[PATH_AT],
         samples: samples,
     }
@@ -73,13 +78,13 @@ pub(crate) fn minor_of(s: &[u8]) -> Minor
 
 // One string's temperature words, from `i` on.
 fn temperatures_at(s: &[u8], i: usize) -> Temperatures
-    requires { ⌜ i + 127 < length (now s) ⌝ }
+    requires { ⌜ i + temperaturesLength ≤ length (now s) ⌝ }
     ensures { λ r. ⌜ r ≡ temperaturesAt (now (s .entry)) i ⌝ }
 {
     let mut words = [0u16; TEMPERATURES];
     let mut k: usize = 0;
     while k < TEMPERATURES {
-        words[k] = two_at(s, i + 2 * k);
+        words[k] = two_at(s, i + TEMPERATURE_LENGTH * k);
         k += 1;
     }
     Temperatures { words: words }
@@ -87,7 +92,7 @@ fn temperatures_at(s: &[u8], i: usize) -> Temperatures
 
 fn temperatures_of(s: &[u8]) -> [Temperatures; STRINGS]
     requires { ⌜ majorLength ≤ length (now s) ⌝ }
-    ensures { λ r. ⌜ r ≡ temperaturesOf stringCount (now (s .entry)) ⌝ }
+    ensures { λ r. ⌜ r ≡ temperaturesOf (now (s .entry)) ⌝ }
 {
     let words = [0u16; TEMPERATURES];
     let zero = Temperatures { words: words };
@@ -101,18 +106,18 @@ fn temperatures_of(s: &[u8]) -> [Temperatures; STRINGS]
 }
 
 fn requests_at(s: &[u8], i: usize) -> Requests
-    requires { ⌜ i + 7 < length (now s) ⌝ }
+    requires { ⌜ i + requestsLength ≤ length (now s) ⌝ }
     ensures { λ r. ⌜ r ≡ requestsAt (now (s .entry)) i ⌝ }
 {
     Requests {
         inhibit: four_at(s, i),
-        reenable: four_at(s, i + 4),
+        reenable: four_at(s, i + WORD_LENGTH),
     }
 }
 
 fn requests_of(s: &[u8]) -> [Requests; STRINGS]
     requires { ⌜ majorLength ≤ length (now s) ⌝ }
-    ensures { λ r. ⌜ r ≡ requestsOf stringCount (now (s .entry)) ⌝ }
+    ensures { λ r. ⌜ r ≡ requestsOf (now (s .entry)) ⌝ }
 {
     let none = Requests {
         inhibit: 0,
@@ -128,18 +133,18 @@ fn requests_of(s: &[u8]) -> [Requests; STRINGS]
 }
 
 fn quantities_at(s: &[u8], i: usize) -> Quantities
-    requires { ⌜ i + 3 < length (now s) ⌝ }
+    requires { ⌜ i + quantitiesLength ≤ length (now s) ⌝ }
     ensures { λ r. ⌜ r ≡ quantitiesAt (now (s .entry)) i ⌝ }
 {
     Quantities {
         fuel: two_at(s, i),
-        oxidizer: two_at(s, i + 2),
+        oxidizer: two_at(s, i + QUANTITY_LENGTH),
     }
 }
 
 fn quantities_of(s: &[u8]) -> [Quantities; MODULES]
     requires { ⌜ majorLength ≤ length (now s) ⌝ }
-    ensures { λ r. ⌜ r ≡ quantitiesOf moduleCount (now (s .entry)) ⌝ }
+    ensures { λ r. ⌜ r ≡ quantitiesOf (now (s .entry)) ⌝ }
 {
     let none = Quantities {
         fuel: 0,
@@ -154,7 +159,7 @@ fn quantities_of(s: &[u8]) -> [Quantities; MODULES]
     all
 }
 
-// What a major record says, given what its first 57 bytes do.
+// What a major record says, given what the bytes that both have do.
 pub(crate) fn major_of(s: &[u8], minor: Minor) -> Major
     requires { ⌜ (majorLength ≤ length (now s)) × (minor ≡ minorOf (now s)) ⌝ }
     ensures { λ r. ⌜ r ≡ majorOf (now (s .entry)) ⌝ }

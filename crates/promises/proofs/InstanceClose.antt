@@ -11,13 +11,12 @@ use lib.ListN.{getD, take}
 use Rattle.bits.specs.Bit.{bit, wordBits}
 use Rattle.bits.proofs.Yes.{not-both, and-both}
 use Rattle.cycle.specs.Answers.{writesReport}
-use Rattle.cycle.specs.Proper.{FitMap}
-use Rattle.cycle.specs.declared.answer.Answer.the-variants.{Taken}
+use Rattle.cycle.specs.Map.{FitMap}
 use Rattle.feed.specs.Size.{reportLength}
 use Rattle.feed.specs.Call.{Result}
 use Rattle.feed.specs.Calls.{answerOf, takenRecords}
 use Rattle.feed.specs.CloseShown.{Shows, NeverShown, Earliest, ThirdEver}
-use Rattle.feed.proofs.CloseFirst.{close-shown, close-never, close-first}
+use Rattle.feed.proofs.Reports.CloseFirst.{close-shown, close-never, close-first}
 use Rattle.promises.specs.NightRecords.{nightMap}
 use Rattle.promises.specs.Instance.{majorBytes}
 use Rattle.promises.specs.InstanceCalls.{handing, Exchanged, madeOf, Given, feedTo50, longerTo50, Appears}

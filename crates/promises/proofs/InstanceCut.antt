@@ -12,16 +12,15 @@ use Rattle.feed.specs.Size.{reportLength}
 use Rattle.feed.specs.Good.{WholeRecord}
 use Rattle.feed.specs.Call.{holding, holds, Result}
 use Rattle.feed.specs.Calls.{monitorAfter, takenReports, Finished, joined}
-use Rattle.feed.proofs.Pieces.{pieces-finish}
+use Rattle.feed.proofs.Cutting.Pieces.{pieces-finish}
 use Rattle.feed.specs.PutIn.{Old, Clear, PutIn, same, puts}
 use Rattle.feed.specs.declared.call.Monitor.{Monitor}
-use Rattle.feed.specs.declared.format.Kind.the-variants.{Minor, Major}
-use Rattle.feed.proofs.Goods.{settles-whole}
-use Rattle.feed.proofs.Cutting.{Alike, cut-anywhere}
+use Rattle.feed.proofs.Calls.Steps.{whole-record}
+use Rattle.feed.proofs.Cutting.CutAnywhere.{Alike, cut-anywhere}
 use Rattle.promises.specs.NightRecords.{nightMap}
 use Rattle.promises.specs.Instance.{warmWords, majorBytes, minorBytes, feed, pieces, longer, others}
 use Rattle.promises.specs.InstanceCalls.{Exchanged, madeOf, Given, upTo25, upTo50, feedCalls, longerCalls, threeReports, hallAt75}
-use Rattle.promises.proofs.InstanceReads.{records-settle}
+use Rattle.promises.proofs.InstanceReads.{records-whole}
 use Rattle.promises.proofs.InstanceSteps.{numbers}
 use Rattle.promises.proofs.InstanceGiven.{to25-given, to50-given, feed-given}
 use Rattle.promises.proofs.InstanceFinished.{to25-finished, to50-finished, feed-finished, longer-finished}
@@ -45,10 +44,10 @@ clear-50 = record {
 }
 
 pub whole-25 : WholeRecord (majorBytes 25)
-whole-25 = settles-whole (majorBytes 25) Major (records-settle .0 .settled)
+whole-25 = whole-record (majorBytes 25) (records-whole .0)
 
 pub whole-10 : WholeRecord (minorBytes 10)
-whole-10 = settles-whole (minorBytes 10) Minor (records-settle .3 .settled)
+whole-10 = whole-record (minorBytes 10) (records-whole .3)
 
 -- record 25 is a repeat at 25
 pub repeated : Old 25 (majorBytes 25)

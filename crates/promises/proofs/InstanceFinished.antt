@@ -5,7 +5,7 @@ use Prim.Native.Nat.{ℕ}
 use Rattle.feed.specs.Call.{Result}
 use Rattle.feed.specs.Calls.{Made, Finished, firstOf, usedOf, HandsPieces, FinishedPieces}
 use Rattle.feed.specs.Calls as feeds
-use Rattle.feed.proofs.Pieces.{pieces-finish}
+use Rattle.feed.proofs.Cutting.Pieces.{pieces-finish}
 use Rattle.promises.specs.NightRecords.{nightMap}
 use Rattle.promises.specs.Instance.{warmWords, majorBytes, minorBytes, pieces, others}
 use Rattle.promises.specs.InstanceCalls.{room, handing, Exchanged, madeOf, Given, upTo25, upTo50, feedCalls, longerCalls}

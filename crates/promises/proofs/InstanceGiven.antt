@@ -8,9 +8,9 @@ use Rattle.feed.specs.declared.call.Monitor.{Monitor}
 use Rattle.promises.specs.NightRecords.{nightMap}
 use Rattle.promises.specs.InstanceCalls.{room, handing, Exchanged, madeOf, Given, hallAt25, hallAt50, hallAt75}
 use Rattle.promises.specs.InstanceCalls.{upTo25, upTo50, feedCalls, longerCalls}
-use Rattle.promises.proofs.InstanceReads.{records-settle, parts-wait, reads-nothing, reads-25, reads-later, reads-first, reads-rest}
+use Rattle.promises.proofs.InstanceReads.{records-whole, parts-wait, reads-nothing, reads-25, reads-later, reads-first, reads-rest}
 use Rattle.promises.proofs.InstanceSteps.{steps-of, night-starts}
-use Rattle.promises.proofs.InstanceCalls.{idle, settles}
+use Rattle.promises.proofs.InstanceCalls.{idle, settling}
 
 -- the monitor that the calls are said to leave
 abbrev pub leftBy : List Exchanged → Monitor
@@ -39,15 +39,15 @@ from-fresh (x ∷ xs) c =
 pub to25-given : FromFresh upTo25
 to25-given = from-fresh upTo25 (
   idle hallAt25 (reads-nothing .0) (parts-wait .0),
-  (settles (reads-25 .0) (records-settle .0) (steps-of .0), tt),
+  (settling (reads-25 .0) (records-whole .0) (steps-of .0), tt),
 )
 
 pub to50-given : FromFresh upTo50
 to50-given = from-fresh upTo50 (
   idle hallAt50 (reads-nothing .0) (parts-wait .0),
   (
-    settles (reads-later .0) (records-settle .1) (steps-of .1),
-    (settles (reads-25 .1) (records-settle .0) (steps-of .0), tt),
+    settling (reads-later .0) (records-whole .1) (steps-of .1),
+    (settling (reads-25 .1) (records-whole .0) (steps-of .0), tt),
   ),
 )
 
@@ -55,14 +55,14 @@ pub feed-given : FromFresh feedCalls
 feed-given = from-fresh feedCalls (
   idle hallAt75 (reads-nothing .0) (parts-wait .0),
   (
-    settles (reads-later .2) (records-settle .2) (steps-of .2),
+    settling (reads-later .2) (records-whole .2) (steps-of .2),
     (
-      settles (reads-rest .0) (records-settle .1) (steps-of .1),
+      settling (reads-rest .0) (records-whole .1) (steps-of .1),
       (
         idle hallAt25 (reads-nothing .1) (parts-wait .1),
         (
           idle hallAt25 (reads-first .0) (parts-wait .1),
-          (settles (reads-25 .2) (records-settle .0) (steps-of .0), tt),
+          (settling (reads-25 .2) (records-whole .0) (steps-of .0), tt),
         ),
       ),
     ),
@@ -73,18 +73,18 @@ pub longer-given : FromFresh longerCalls
 longer-given = from-fresh longerCalls (
   idle hallAt75 (reads-nothing .0) (parts-wait .0),
   (
-    settles (reads-later .2) (records-settle .2) (steps-of .2),
+    settling (reads-later .2) (records-whole .2) (steps-of .2),
     (
-      settles (reads-rest .2) (records-settle .3) (steps-of .4),
+      settling (reads-rest .2) (records-whole .3) (steps-of .4),
       (
         idle hallAt50 (reads-first .2) (parts-wait .3),
         (
-          settles (reads-later .1) (records-settle .1) (steps-of .1),
+          settling (reads-later .1) (records-whole .1) (steps-of .1),
           (
-            settles (reads-rest .1) (records-settle .0) (steps-of .3),
+            settling (reads-rest .1) (records-whole .0) (steps-of .3),
             (
               idle hallAt25 (reads-first .1) (parts-wait .2),
-              (settles (reads-25 .3) (records-settle .0) (steps-of .0), tt),
+              (settling (reads-25 .3) (records-whole .0) (steps-of .0), tt),
             ),
           ),
         ),

@@ -1,41 +1,30 @@
 -- What the reader makes of the records of the instance, by computing it: each of them settles, and where reading stops. Assumes nothing.
 use mathlib.Core.Path.{_≡_, refl}
-use mathlib.Core.Logic.{inl, inr}
+use mathlib.Core.Bool.{true}
 use mathlib.Core.List.{List, [], _++_}
 use Prim.Native.Nat.{ℕ, _-_, _≤_}
 use native.Mathlib.Bridge.{le-by-compare, IsLe}
 use lib.ListN.{length, take, drop}
+use Rattle.bits.specs.Bit.{every}
 use Rattle.feed.specs.Size.{mostHeld}
-use Rattle.feed.specs.Format.{kindOf, lengthOf, total, sumOf, reservedZero, quantitiesRight, goodMinor, goodMajor, goodKind}
+use Rattle.feed.specs.Format.{rowOf, markOf, total, sumOf, reservedZero, quantitiesRight, goodMinor, goodMajor}
 use Rattle.feed.specs.Format.{markedLook, look}
 use Rattle.feed.specs.Reader.{settle, reads}
-use Rattle.feed.specs.declared.format.Kind.{Kind}
-use Rattle.feed.specs.declared.format.Kind.the-variants.{Minor, Major}
+use Rattle.feed.specs.Step.{isWhole}
 use Rattle.feed.specs.declared.format.Look.the-variants.{Waits}
-use Rattle.feed.proofs.Lengths.{Real}
-use Rattle.feed.proofs.Goods.{Settled}
 use Rattle.promises.specs.Instance.{warmWords, majorBytes, minorBytes}
 
 -- ---- the records
 
-pub record IsRecord (r : List ℕ) (k : Kind) : Type 0 where
-  pub real : Real k
-  pub settled : Settled r k
-
-pub records-settle : IsRecord (majorBytes 25) Major × IsRecord (majorBytes 50) Major × IsRecord (majorBytes 75) Major
-    × IsRecord (minorBytes 10) Minor
-unfolding kindOf lengthOf total sumOf reservedZero quantitiesRight goodMinor goodMajor goodKind markedLook look warmWords majorBytes
+pub records-whole : (isWhole (majorBytes 25) ≡ true) × (isWhole (majorBytes 50) ≡ true) × (isWhole (majorBytes 75) ≡ true)
+    × (isWhole (minorBytes 10) ≡ true)
+unfolding every rowOf markOf total sumOf reservedZero quantitiesRight goodMinor goodMajor markedLook look isWhole warmWords majorBytes
     minorBytes
-records-settle = (
-  record { real = inr refl; settled = (refl, refl) },
-  record { real = inr refl; settled = (refl, refl) },
-  record { real = inr refl; settled = (refl, refl) },
-  record { real = inl refl; settled = (refl, refl) },
-)
+records-whole = (refl, refl, refl, refl)
 
 pub parts-wait : (look [] ≡ Waits) × (look (take 85 (majorBytes 50)) ≡ Waits) × (look (take 385 (majorBytes 25)) ≡ Waits)
     × (look (take 15 (minorBytes 10)) ≡ Waits)
-unfolding kindOf lengthOf markedLook look warmWords majorBytes minorBytes
+unfolding rowOf markOf markedLook look warmWords majorBytes minorBytes
 parts-wait = (refl, refl, refl, refl)
 
 -- ---- where reading stops
@@ -48,7 +37,7 @@ pub record Stopping (held piece : List ℕ) (used : ℕ) (left rest : List ℕ) 
 
 -- nothing to read
 pub reads-nothing : Stopping [] [] 0 [] [] × Stopping (take 85 (majorBytes 50)) [] 0 (take 85 (majorBytes 50)) []
-unfolding IsLe kindOf lengthOf markedLook look settle reads warmWords majorBytes
+unfolding IsLe rowOf markOf markedLook look settle reads warmWords majorBytes
 reads-nothing = (
   record { short = le-by-compare 0 614 tt; count = refl; stop = refl },
   record { short = le-by-compare 85 614 tt; count = refl; stop = refl },
@@ -59,7 +48,7 @@ pub reads-25 : Stopping [] (majorBytes 25) 615 (majorBytes 25) []
     × Stopping [] (majorBytes 25 ++ majorBytes 50) 615 (majorBytes 25) (majorBytes 50)
     × Stopping [] (majorBytes 25 ++ take 85 (majorBytes 50)) 615 (majorBytes 25) (take 85 (majorBytes 50))
     × Stopping [] (majorBytes 25 ++ take 385 (majorBytes 25)) 615 (majorBytes 25) (take 385 (majorBytes 25))
-unfolding IsLe kindOf lengthOf total sumOf reservedZero quantitiesRight goodMajor goodKind markedLook look settle reads warmWords
+unfolding IsLe every rowOf markOf total sumOf reservedZero quantitiesRight goodMajor markedLook look settle reads warmWords
     majorBytes
 reads-25 = (
   record { short = le-by-compare 0 614 tt; count = refl; stop = refl },
@@ -72,7 +61,7 @@ reads-25 = (
 pub reads-later : Stopping [] (majorBytes 50) 615 (majorBytes 50) []
     × Stopping [] (majorBytes 50 ++ take 15 (minorBytes 10)) 615 (majorBytes 50) (take 15 (minorBytes 10))
     × Stopping [] (majorBytes 75) 615 (majorBytes 75) []
-unfolding IsLe kindOf lengthOf total sumOf reservedZero quantitiesRight goodMajor goodKind markedLook look settle reads warmWords
+unfolding IsLe every rowOf markOf total sumOf reservedZero quantitiesRight goodMajor markedLook look settle reads warmWords
     majorBytes minorBytes
 reads-later = (
   record { short = le-by-compare 0 614 tt; count = refl; stop = refl },
@@ -84,7 +73,7 @@ reads-later = (
 pub reads-first : Stopping [] (take 85 (majorBytes 50)) 85 (take 85 (majorBytes 50)) []
     × Stopping [] (take 385 (majorBytes 25)) 385 (take 385 (majorBytes 25)) []
     × Stopping [] (take 15 (minorBytes 10)) 15 (take 15 (minorBytes 10)) []
-unfolding IsLe kindOf lengthOf markedLook look settle reads warmWords majorBytes minorBytes
+unfolding IsLe rowOf markOf markedLook look settle reads warmWords majorBytes minorBytes
 reads-first = (
   record { short = le-by-compare 0 614 tt; count = refl; stop = refl },
   record { short = le-by-compare 0 614 tt; count = refl; stop = refl },
@@ -96,7 +85,7 @@ pub reads-rest : Stopping (take 85 (majorBytes 50)) (drop 85 (majorBytes 50) ++ 
     × Stopping (take 385 (majorBytes 25)) (drop 385 (majorBytes 25) ++ (majorBytes 50 ++ take 15 (minorBytes 10))) 230 (majorBytes 25)
     (majorBytes 50 ++ take 15 (minorBytes 10))
     × Stopping (take 15 (minorBytes 10)) (drop 15 (minorBytes 10) ++ majorBytes 75) 44 (minorBytes 10) (majorBytes 75)
-unfolding IsLe kindOf lengthOf total sumOf reservedZero quantitiesRight goodMinor goodMajor goodKind markedLook look settle reads warmWords
+unfolding IsLe every rowOf markOf total sumOf reservedZero quantitiesRight goodMinor goodMajor markedLook look settle reads warmWords
     majorBytes minorBytes
 reads-rest = (
   record { short = le-by-compare 85 614 tt; count = refl; stop = refl },

@@ -1,8 +1,6 @@
 pub mod OutcomesSplit
 pub mod UniqueBits
-pub mod UniqueCycleRules
-pub mod UniqueCycleString
-pub mod UniqueCycleHall
+pub mod UniqueCycle
 pub mod UniqueFeedReader
 pub mod UniqueFeedCall
 pub mod Nights

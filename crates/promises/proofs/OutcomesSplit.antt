@@ -6,16 +6,17 @@ use native.Mathlib.Omega.{arith}
 use lib.ListN.{length}
 use denote.Ref.{RefT, now}
 use Rattle.feed.specs.Call.{call, startedOver}
+use Rattle.cycle.specs.declared.answer.Answer.the-variants.{Taken}
 use Rattle.promises.specs.Outcomes.{OneOutcome}
-use Rattle.feed.proofs.bytes.wide16 as wide16
+use Rattle.cycle.proofs.answer.Answer.number as answer-number
 use Rattle.feed.proofs.call.Monitor.call as monitor-call
 
 -- the bound alone leaves the number open
-pub bound-alone : OneOutcome wide16.ended (λ κs a x s. x < 256) → ⊥
+pub bound-alone : OneOutcome answer-number.ended (λ κs a x s. x < 256) → ⊥
 bound-alone one =
     let at-zero : 0 < 256 = omega arith in
     let at-one : 1 < 256 = omega arith in
-    let same : _≡_ {A = ℕ} 0 1 = one tt (0, tt) 0 1 (tt, tt) (tt, tt) at-zero at-one .0 in
+    let same : _≡_ {A = ℕ} 0 1 = one tt (Taken, tt) 0 1 (tt, tt) (tt, tt) at-zero at-one .0 in
     absurd (omega arith)
 
 -- what a call gives back leaves the outbox open

@@ -11,9 +11,7 @@ use lib.ListN.{length, getD, take}
 use Rattle.cycle.specs.Size.{stringCount, manifoldCount}
 use Rattle.cycle.specs.Answers.{writesReport}
 use Rattle.cycle.specs.Jets.{JetRecord, reached, run, asksAt}
-use Rattle.cycle.specs.Hall.{masksOf}
-use Rattle.cycle.specs.Map.{refused}
-use Rattle.cycle.specs.Proper.{FitMap}
+use Rattle.cycle.specs.Map.{masksOf, FitMap, refused}
 use Rattle.cycle.specs.Close.{Rising, Third}
 use Rattle.cycle.specs.declared.answer.Answer.{Answer}
 use Rattle.cycle.specs.declared.answer.Answer.the-variants.{Taken, NothingSettled}
@@ -30,30 +28,30 @@ use Rattle.feed.specs.Tells.{Tells}
 use Rattle.feed.specs.CloseShown.{Shows, NeverShown, ThirdEver, Earliest}
 use Rattle.feed.specs.Batch.{Continues}
 use Rattle.feed.specs.declared.call.Monitor.{Monitor}
-use Rattle.feed.proofs.Answered.{answers-exactly}
-use Rattle.feed.proofs.Left.{call-leaves}
-use Rattle.feed.proofs.CallReads.{call-reads}
-use Rattle.feed.proofs.Starting as starting
-use Rattle.feed.proofs.ReportsTell as reports
-use Rattle.feed.proofs.Cutting as cutting
-use Rattle.feed.proofs.Finishing as finishing
-use Rattle.feed.proofs.Pieces as inPieces
-use Rattle.feed.proofs.CloseFirst as close
-use Rattle.feed.proofs.Batches.{batch-continues}
+use Rattle.feed.proofs.Answers.Answered.{answers-exactly}
+use Rattle.feed.proofs.Answers.Left.{call-leaves}
+use Rattle.feed.proofs.Calls.CallReads.{call-reads}
+use Rattle.feed.proofs.Calls.Starting as starting
+use Rattle.feed.proofs.Reports.ReportsTell as reports
+use Rattle.feed.proofs.Cutting.CutAnywhere as cutting
+use Rattle.feed.proofs.Cutting.Finishing as finishing
+use Rattle.feed.proofs.Cutting.Pieces as inPieces
+use Rattle.feed.proofs.Reports.CloseFirst as close
+use Rattle.feed.proofs.Calls.Batches.{batch-continues}
 
 -- ---- Demand 1: "The refusals are numbered, each given under its stated condition and no other; after one, monitor and outbox are as the
 -- table says." That a call stays within its memory and ends is part of what a proved contract of `Monitor::call` says.
 
 -- For every state, piece and outbox each answer, 'taken' and 'nothing settled' included, is given if and only if its condition holds: of
--- the record that the call settles, the cycle number and the outbox's length.
+-- the record that the call settles, the hall and the outbox's length.
 pub answers : (m : Monitor) (piece out : List ℕ) (a : Answer)
-    → ((call m piece out) .outcome .answer ≡ a) ↔ Condition a (m .hall .n) (length out) (recordIn (holds m ++ piece))
+    → ((call m piece out) .outcome .answer ≡ a) ↔ Condition a (m .hall) (length out) (recordIn (holds m ++ piece))
 answers = answers-exactly
 
 -- so exactly one condition holds
 pub one-answer : (m : Monitor) (piece out : List ℕ) (a b : Answer)
-    → Condition a (m .hall .n) (length out) (recordIn (holds m ++ piece))
-    → Condition b (m .hall .n) (length out) (recordIn (holds m ++ piece)) → a ≡ b
+    → Condition a (m .hall) (length out) (recordIn (holds m ++ piece))
+    → Condition b (m .hall) (length out) (recordIn (holds m ++ piece)) → a ≡ b
 one-answer m piece out a b x y = sym (answers m piece out a .1 x) ∙ answers m piece out b .1 y
 
 -- what monitor, bytes used and outbox are then
@@ -72,17 +70,17 @@ reads = call-reads
 pub starts : (masks : List Masks) → FitMap masks → Starts masks (startedOver masks)
 starts = starting.starts-exactly
 
-pub starts-from : (l : List ℕ) → length l ≡ 64 → startedFrom l ≡ startedOver (masksOfBytes stringCount l)
+pub starts-from : (l : List ℕ) → length l ≡ 64 → startedFrom l ≡ startedOver (masksOfBytes l)
 starts-from = starting.starts-from
 
 pub no-map : (l : List ℕ) → (length l ≡ 64 → ⊥) → (startedFrom l) .answer ≡ NothingSettled
 no-map = starting.no-map
 
 pub mask-at : (l : List ℕ) (s i : ℕ) → s < stringCount → i < manifoldCount
-    → getD (masksOf (masksOfBytes stringCount l) s) i 0 ≡ four l (16 * s + 4 * i)
+    → getD (masksOf (masksOfBytes l) s) i 0 ≡ four l (16 * s + 4 * i)
 mask-at = starting.mask-at
 
-pub bytes-fit : (l : List ℕ) → ((i : ℕ) → getD l i 0 < 256) → FitMap (masksOfBytes stringCount l)
+pub bytes-fit : (l : List ℕ) → ((i : ℕ) → getD l i 0 < 256) → FitMap (masksOfBytes l)
 bytes-fit = starting.bytes-fit
 
 -- ---- Demand 3, cutting, from fresh: "cut the feed anywhere, put in whole stale or repeated records where the reader holds no bytes, call
@@ -105,8 +103,8 @@ pub pieces-finish : (masks : List Masks) (pieces : List (List ℕ)) (cs : List M
 pieces-finish = inPieces.pieces-finish
 
 -- the step that `watch` repeats over what it has read, `Monitor::run`, is such calls (that `main` repeats it is tested, not proved)
-pub run-is-calls : (masks : List Masks) (feed behind : List ℕ) (n : ℕ) (cs : List Made) (piece : List ℕ)
-    → Hands masks feed cs (piece ++ behind) → Continues masks feed cs piece behind n (runs n (monitorAfter masks cs) piece)
+pub run-is-calls : (masks : List Masks) (feed behind : List ℕ) (room : ℕ) (cs : List Made) (piece : List ℕ)
+    → Hands masks feed cs (piece ++ behind) → Continues masks feed cs piece behind room (runs room (monitorAfter masks cs) piece)
 run-is-calls = batch-continues
 
 -- ---- From fresh over an accepted map, after any calls at all

@@ -11,11 +11,11 @@ use Rattle.cycle.proofs.Balance.{weighed-exactly}
 use Rattle.cycle.proofs.Leaks.{leaks-exactly}
 use Rattle.cycle.proofs.Numbers.{missed-is-between}
 
-pub leaks-below-64 : (fuel oxidizer : ℕ) → (leaks fuel oxidizer ≡ true) ↔ ((fuel < 64) ⊎ (oxidizer < 64))
-leaks-below-64 = leaks-exactly
+pub leak-limit : (fuel oxidizer : ℕ) → (leaks fuel oxidizer ≡ true) ↔ ((fuel < 64) ⊎ (oxidizer < 64))
+leak-limit = leaks-exactly
 
-pub balance-by-16 : (q : Quantities) → Weighed (q .fuel) (q .oxidizer) (weighed q)
-balance-by-16 = weighed-exactly
+pub balance-limit : (q : Quantities) → Weighed (q .fuel) (q .oxidizer) (weighed q)
+balance-limit = weighed-exactly
 
 pub missed-is-multiple : (old new : ℕ) → (missedMajor old new ≡ true) ↔ ((k : ℕ) × (old < k * 25) × (k * 25 < new))
 missed-is-multiple = missed-is-between

@@ -1,14 +1,14 @@
--- 01, "What each claim has to tie down": one outcome for starts, calls and runs, the outbox included. Assumes nothing.
+-- 01, "What each claim has to tie down": one outcome for steps, starts, calls and runs, the outbox included. Assumes nothing.
 use mathlib.Core.Path.{refl, sym, ap, _∙_}
 use Rattle.promises.specs.Outcomes.{OneOutcome}
-use Rattle.feed.proofs.call.«is_major» as is-major
+use Rattle.feed.proofs.step.step as step
 use Rattle.feed.proofs.call.Monitor.start as monitor-start
 use Rattle.feed.proofs.call.Monitor.«start_from» as monitor-start-from
 use Rattle.feed.proofs.call.Monitor.call as monitor-call
 use Rattle.feed.proofs.call.Monitor.run as monitor-run
 
-pub is-major-one : OneOutcome is-major.ended is-major.Reads.Post
-is-major-one κs a x x′ w w′ p q = (p ∙ sym q, refl)
+pub step-one : OneOutcome step.ended step.Reads.Post
+step-one κs a x x′ w w′ p q = (p ∙ sym q, refl)
 
 pub monitor-start-one : OneOutcome monitor-start.ended monitor-start.Reads.Post
 monitor-start-one κs a x x′ w w′ p q = (p ∙ sym q, refl)

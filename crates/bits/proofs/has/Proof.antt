@@ -6,12 +6,6 @@ use borrow.Author.Needs.{needs}
 use Rattle.bits.proofs.has.Statement.{statement}
 use Rattle.bits.proofs.has.Tie as tie
 
-cast-result : tie.Need-cast-result
-cast-result c = search needs
-
-shr-result : tie.Need-shr-result
-shr-result c = search needs
-
 returns : tie.Need-returns
 unfolding bit
 returns c = refl
@@ -20,4 +14,4 @@ returns-2 : tie.Need-returns-2
 returns-2 c = sym (bit-past 32 (c .before .args .j) (c .before .args .w) (search needs) (c .if1 .left))
 
 pub has-spec : {M : Type 1} → statement M
-has-spec = tie.close (tie.spec cast-result shr-result returns returns-2)
+has-spec = tie.close (tie.spec (λ c. search needs) (λ c. search needs) returns returns-2)

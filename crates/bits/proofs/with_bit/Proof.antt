@@ -1,5 +1,5 @@
 -- `bits::with_bit` meets its contract. Assumes nothing.
-use mathlib.Core.Path.{refl, ap, _∙_}
+use mathlib.Core.Path.{ap, _∙_}
 use Prim.Native.Nat.{_^_}
 use native.Mathlib.Nat.{one-mul}
 use lib.Dec.{lit<}
@@ -11,12 +11,6 @@ use Rattle.bits.specs.Bit.{withBit}
 use borrow.Author.Needs.{needs}
 use Rattle.bits.proofs.with_bit.Statement.{statement}
 use Rattle.bits.proofs.with_bit.Tie as tie
-
-cast-result : tie.Need-cast-result
-cast-result c = search needs
-
-shl-result : tie.Need-shl-result
-shl-result c = search needs
 
 returns : tie.Need-returns
 unfolding withBit
@@ -35,4 +29,4 @@ unfolding withBit
 returns-3 c = rw (le-ltb _ _ (c .if1 .left))
 
 pub with-bit-spec : {M : Type 1} → statement M
-with-bit-spec = tie.close (tie.spec cast-result shl-result returns returns-2 returns-3)
+with-bit-spec = tie.close (tie.spec (λ c. search needs) (λ c. search needs) returns returns-2 returns-3)

@@ -5,17 +5,8 @@ use borrow.Author.Needs.{needs}
 use Rattle.calls.proofs.one_call.Statement.{statement}
 use Rattle.calls.proofs.one_call.Tie as tie
 
-call-requires : tie.Need-call-requires
-call-requires c κs = search needs
-
-said-requires : tie.Need-said-requires
-said-requires c κs = search needs
-
-same-length : tie.Need-same-length
-same-length c = search needs
-
 returns : tie.Need-returns
 returns c = let e = c .before .before .before .before .call .ensures in (c .said .ensures ∙ ap (λ (o : Outcome). o .monitor) (e .0), e .1)
 
 pub one-call-spec : {M : Type 1} → statement M
-one-call-spec = tie.close (tie.spec call-requires said-requires same-length returns)
+one-call-spec = tie.close (tie.spec (λ c κs. search needs) (λ c κs. search needs) (λ c. search needs) returns)

@@ -6,12 +6,6 @@ use borrow.Author.Needs.{needs}
 use Rattle.calls.proofs.started.Statement.{statement}
 use Rattle.calls.proofs.started.Tie as tie
 
-slice-aggregate-start-from : tie.Need-slice-aggregate-start-from
-slice-aggregate-start-from c = search needs
-
-start-from-requires : tie.Need-start-from-requires
-start-from-requires c κs = search needs
-
 returns : tie.Need-returns
 returns c =
     let at-start-from = c .before .before in
@@ -22,4 +16,4 @@ returns c =
     )
 
 pub started-spec : {M : Type 1} → statement M
-started-spec = tie.close (tie.spec slice-aggregate-start-from start-from-requires returns)
+started-spec = tie.close (tie.spec (λ c. search needs) (λ c κs. search needs) returns)

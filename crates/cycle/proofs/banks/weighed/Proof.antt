@@ -1,13 +1,9 @@
 -- `cycle::banks::weighed` meets its contract. Assumes nothing.
-use mathlib.Core.Path.{refl}
 use borrow.Author.Tests.{lt-ltb, le-ltb}
 use Rattle.cycle.specs.Banks.{weighed}
 use borrow.Author.Needs.{needs}
 use Rattle.cycle.proofs.banks.weighed.Statement.{statement}
 use Rattle.cycle.proofs.banks.weighed.Tie as tie
-
-sub-t4 : tie.Need-sub-t4
-sub-t4 c = search needs
 
 returns : tie.Need-returns
 unfolding weighed
@@ -18,4 +14,4 @@ unfolding weighed
 returns-2 c = rw (le-ltb _ _ (c .before .if1 .left))
 
 pub weighed-spec : {M : Type 1} → statement M
-weighed-spec = tie.close (tie.spec sub-t4 returns returns-2)
+weighed-spec = tie.close (tie.spec (λ c. search needs) returns returns-2)

@@ -19,27 +19,6 @@ loop-holds : tie.Need-loop-holds Inv-loop μ-loop
 unfolding weighedAll each
 loop-holds c = search needs
 
-mul-pair : tie.Need-mul-pair Inv-loop μ-loop
-mul-pair c = search needs
-
-array-copy-out-pair : tie.Need-array-copy-out-pair Inv-loop μ-loop
-array-copy-out-pair c = search needs
-
-weighed-requires : tie.Need-weighed-requires Inv-loop μ-loop
-weighed-requires c κs = search needs
-
-mul-next : tie.Need-mul-next Inv-loop μ-loop
-mul-next c = search needs
-
-array-set-from-next : tie.Need-array-set-from-next Inv-loop μ-loop
-array-set-from-next c = search needs
-
-add-m : tie.Need-add-m Inv-loop μ-loop
-add-m c = search needs
-
-loop-less : tie.Need-loop-less Inv-loop μ-loop
-loop-less c = search needs
-
 loop-again : tie.Need-loop-again Inv-loop μ-loop
 unfolding weighedAll
 loop-again c = (search needs, turned _ _ _ _ _ _ (c .before .before .before .loop .inv .1) (c .weighed .ensures))
@@ -52,16 +31,5 @@ returns c =
 pub weighed-all-spec : {M : Type 1} → statement M
 weighed-all-spec =
     tie.close
-    (tie.spec
-    Inv-loop
-    μ-loop
-    loop-holds
-    mul-pair
-    array-copy-out-pair
-    weighed-requires
-    mul-next
-    array-set-from-next
-    add-m
-    loop-less
-    loop-again
-    returns)
+    (tie.spec Inv-loop μ-loop loop-holds (λ c. search needs) (λ c. search needs) (λ c κs. search needs) (λ c. search needs)
+    (λ c. search needs) (λ c. search needs) (λ c. search needs) loop-again returns)

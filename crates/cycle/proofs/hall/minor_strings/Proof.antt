@@ -6,18 +6,6 @@ use Rattle.cycle.proofs.Quiet.{told-quiet}
 use Rattle.cycle.proofs.hall.minor_strings.Statement.{statement}
 use Rattle.cycle.proofs.hall.minor_strings.Tie as tie
 
-some-busy-requires : tie.Need-some-busy-requires
-some-busy-requires c κs = search needs
-
-all-steps-requires : tie.Need-all-steps-requires
-all-steps-requires c κs = search needs
-
-quiet-strings-requires : tie.Need-quiet-strings-requires
-quiet-strings-requires c κs = search needs
-
-returns : tie.Need-returns
-returns c = search needs
-
 returns-2 : tie.Need-returns-2
 returns-2 c =
     let asked = c .before .before in
@@ -27,4 +15,6 @@ returns-2 c =
     (c .before .if1 .left)
 
 pub minor-strings-spec : {M : Type 1} → statement M
-minor-strings-spec = tie.close (tie.spec some-busy-requires all-steps-requires quiet-strings-requires returns returns-2)
+minor-strings-spec =
+    tie.close
+    (tie.spec (λ c κs. search needs) (λ c κs. search needs) (λ c κs. search needs) (λ c. search needs) returns-2)

@@ -1,14 +1,13 @@
 -- `cycle::hall::quiet_strings` meets its contract. Assumes nothing.
 use borrow.Author.Needs.{needs}
-use mathlib.Core.Path.{_≡_, refl, ap, sym, _∙_}
-use Prim.Native.Nat.{ℕ, _≤_, _-_}
+use mathlib.Core.Path.{_≡_}
+use Prim.Native.Nat.{_≤_, _-_}
 use native.Mathlib.Omega.{arith}
-use native.Mathlib.Numerals.{add-one}
 use Rattle.cycle.specs.Size.{stringCount}
 use Rattle.cycle.specs.Each.{each}
 use Rattle.cycle.specs.Hall.{pastString}
-use Rattle.cycle.specs.Quiet.{quietStrings}
-use Rattle.cycle.proofs.Each.{each-next}
+use Rattle.cycle.specs.Inside.Quiet.{quietStrings}
+use Rattle.cycle.proofs.Loops.{turned}
 use Rattle.cycle.proofs.hall.quiet_strings.Statement.{statement}
 use Rattle.cycle.proofs.hall.quiet_strings.Tie as tie
 
@@ -22,46 +21,13 @@ loop-holds : tie.Need-loop-holds Inv-loop μ-loop
 unfolding quietStrings each
 loop-holds c = search needs
 
-mul-string : tie.Need-mul-string Inv-loop μ-loop
-mul-string c = search needs
-
-array-copy-out-string : tie.Need-array-copy-out-string Inv-loop μ-loop
-array-copy-out-string c = search needs
-
-mul-m : tie.Need-mul-m Inv-loop μ-loop
-mul-m c = search needs
-
-array-copy-out-m : tie.Need-array-copy-out-m Inv-loop μ-loop
-array-copy-out-m c = search needs
-
-mul-sample : tie.Need-mul-sample Inv-loop μ-loop
-mul-sample c = search needs
-
-element-copy-out-sample : tie.Need-element-copy-out-sample Inv-loop μ-loop
-element-copy-out-sample c = search needs
-
-quiet-cycle-requires : tie.Need-quiet-cycle-requires Inv-loop μ-loop
-quiet-cycle-requires c κs = search needs
-
-mul-next : tie.Need-mul-next Inv-loop μ-loop
-mul-next c = search needs
-
-array-set-from-next : tie.Need-array-set-from-next Inv-loop μ-loop
-array-set-from-next c = search needs
-
-add-s : tie.Need-add-s Inv-loop μ-loop
-add-s c = search needs
-
-loop-less : tie.Need-loop-less Inv-loop μ-loop
-loop-less c = search needs
-
 loop-again : tie.Need-loop-again Inv-loop μ-loop
 unfolding quietStrings
 loop-again c =
     let a = c .before .before .before .before .before .before .args in
     let at = c .before .before .before .before .before .loop in (
       search needs,
-      rw add-one (each-next _ pastString (a .strings) (at .s) (at .next) (c .quiet-cycle .result) (at .inv .1) (c .quiet-cycle .ensures)),
+      turned _ pastString (a .strings) (at .s) (at .next) (c .quiet-cycle .result) (at .inv .1) (c .quiet-cycle .ensures),
     )
 
 returns : tie.Need-returns Inv-loop μ-loop
@@ -70,20 +36,6 @@ returns c = let e : c .before .loop .s ≡ stringCount = omega arith in cc
 pub quiet-strings-spec : {M : Type 1} → statement M
 quiet-strings-spec =
     tie.close
-    (tie.spec
-    Inv-loop
-    μ-loop
-    loop-holds
-    mul-string
-    array-copy-out-string
-    mul-m
-    array-copy-out-m
-    mul-sample
-    element-copy-out-sample
-    quiet-cycle-requires
-    mul-next
-    array-set-from-next
-    add-s
-    loop-less
-    loop-again
-    returns)
+    (tie.spec Inv-loop μ-loop loop-holds (λ c. search needs) (λ c. search needs) (λ c. search needs) (λ c. search needs)
+    (λ c. search needs) (λ c. search needs) (λ c κs. search needs) (λ c. search needs) (λ c. search needs) (λ c. search needs)
+    (λ c. search needs) loop-again returns)

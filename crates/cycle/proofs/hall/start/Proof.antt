@@ -13,18 +13,6 @@ use borrow.Author.Needs.{needs}
 use Rattle.cycle.proofs.hall.start.Statement.{statement}
 use Rattle.cycle.proofs.hall.start.Tie as tie
 
-refused-requires : tie.Need-refused-requires
-refused-requires c κs = search needs
-
-none-requires : tie.Need-none-requires
-none-requires c κs = search needs
-
-fresh-requires : tie.Need-fresh-requires
-fresh-requires c κs = search needs
-
-fresh-requires-2 : tie.Need-fresh-requires-2
-fresh-requires-2 c κs = search needs
-
 -- by the test on the map
 module _ (masks : List Masks) {r : Bool} {h : Hall} where
   refused-start : r ≡ refused stringCount masks → r ≡ true → {x : Masks} → x ≡ noMasks → h ≡ freshHall (replicate stringCount x)
@@ -47,4 +35,4 @@ returns-2 c = taken-start _ (c .before .before .refused .ensures) (c .before .if
 pub start-spec : {M : Type 1} → statement M
 start-spec =
     tie.close
-    (tie.spec refused-requires none-requires fresh-requires fresh-requires-2 returns returns-2)
+    (tie.spec (λ c κs. search needs) (λ c κs. search needs) (λ c κs. search needs) (λ c κs. search needs) returns returns-2)

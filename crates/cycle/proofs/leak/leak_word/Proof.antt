@@ -22,39 +22,6 @@ loop-holds : tie.Need-loop-holds Inv-loop μ-loop
 unfolding pack
 loop-holds c = search needs
 
-mul-leaks : tie.Need-mul-leaks Inv-loop μ-loop
-mul-leaks c = search needs
-
-mul-leaks-2 : tie.Need-mul-leaks-2 Inv-loop μ-loop
-mul-leaks-2 c = search needs
-
-array-read-leaks : tie.Need-array-read-leaks Inv-loop μ-loop
-array-read-leaks c = search needs
-
-mul-leaks-3 : tie.Need-mul-leaks-3 Inv-loop μ-loop
-mul-leaks-3 c = search needs
-
-add-leaks : tie.Need-add-leaks Inv-loop μ-loop
-add-leaks c = search needs
-
-mul-leaks-4 : tie.Need-mul-leaks-4 Inv-loop μ-loop
-mul-leaks-4 c = search needs
-
-array-read-leaks-2 : tie.Need-array-read-leaks-2 Inv-loop μ-loop
-array-read-leaks-2 c = search needs
-
-leaks-requires : tie.Need-leaks-requires Inv-loop μ-loop
-leaks-requires c κs = search needs
-
-with-bit-requires : tie.Need-with-bit-requires Inv-loop μ-loop
-with-bit-requires c κs = search needs
-
-add-j : tie.Need-add-j Inv-loop μ-loop
-add-j c = search needs
-
-loop-less : tie.Need-loop-less Inv-loop μ-loop
-loop-less c = search needs
-
 loop-again : tie.Need-loop-again Inv-loop μ-loop
 loop-again c = (
   search needs,
@@ -72,20 +39,6 @@ returns c = ended (λ j. pack j (jetLeaks (c .before .before .before .args .t .w
 pub leak-word-spec : {M : Type 1} → statement M
 leak-word-spec =
     tie.close
-    (tie.spec
-    Inv-loop
-    μ-loop
-    loop-holds
-    mul-leaks
-    mul-leaks-2
-    array-read-leaks
-    mul-leaks-3
-    add-leaks
-    mul-leaks-4
-    array-read-leaks-2
-    leaks-requires
-    with-bit-requires
-    add-j
-    loop-less
-    loop-again
-    returns)
+    (tie.spec Inv-loop μ-loop loop-holds (λ c. search needs) (λ c. search needs) (λ c. search needs) (λ c. search needs)
+    (λ c. search needs) (λ c. search needs) (λ c. search needs) (λ c κs. search needs) (λ c κs. search needs) (λ c. search needs)
+    (λ c. search needs) loop-again returns)

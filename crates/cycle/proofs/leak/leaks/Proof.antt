@@ -5,14 +5,8 @@ use borrow.Author.Needs.{needs}
 use Rattle.cycle.proofs.leak.leaks.Statement.{statement}
 use Rattle.cycle.proofs.leak.leaks.Tie as tie
 
-cold-requires : tie.Need-cold-requires
-cold-requires c κs = search needs
-
-cold-requires-2 : tie.Need-cold-requires-2
-cold-requires-2 c κs = search needs
-
 returns : tie.Need-returns
 returns c = ap₂ (λ (x y : Bool). x || y) (c .before .cold .ensures) (c .cold2 .ensures)
 
 pub leaks-spec : {M : Type 1} → statement M
-leaks-spec = tie.close (tie.spec cold-requires cold-requires-2 returns)
+leaks-spec = tie.close (tie.spec (λ c κs. search needs) (λ c κs. search needs) returns)

@@ -10,20 +10,8 @@ use borrow.Author.Needs.{needs}
 use Rattle.cycle.proofs.number.following.Statement.{statement}
 use Rattle.cycle.proofs.number.following.Tie as tie
 
-sub-if1 : tie.Need-sub-if1
-sub-if1 c = search needs
-
 returns : tie.Need-returns
 returns c = sym (follows-ended (c .before .args .n) (c .before .args .d) (c .before .args .gap) (c .before .args .major) (omega arith))
-
-add-new : tie.Need-add-new
-add-new c = search needs
-
-is-major-requires : tie.Need-is-major-requires
-is-major-requires c κs = search needs
-
-missed-major-requires : tie.Need-missed-major-requires
-missed-major-requires c κs = search needs
 
 returns-2 : tie.Need-returns-2
 returns-2 c =
@@ -64,13 +52,5 @@ returns-5 c =
 pub following-spec : {M : Type 1} → statement M
 following-spec =
     tie.close
-    (tie.spec
-    sub-if1
-    returns
-    add-new
-    is-major-requires
-    missed-major-requires
-    returns-2
-    returns-3
-    returns-4
-    returns-5)
+    (tie.spec (λ c. search needs) returns (λ c. search needs) (λ c κs. search needs) (λ c κs. search needs) returns-2 returns-3
+    returns-4 returns-5)

@@ -13,15 +13,6 @@ use borrow.Author.Needs.{needs}
 use Rattle.cycle.proofs.number.judged.Statement.{statement}
 use Rattle.cycle.proofs.number.judged.Tie as tie
 
-distance-requires : tie.Need-distance-requires
-distance-requires c κs = search needs
-
-following-requires : tie.Need-following-requires
-following-requires c κs = search needs
-
-following-requires-2 : tie.Need-following-requires-2
-following-requires-2 c κs = search needs
-
 returns : tie.Need-returns
 returns c =
     sym (judged-repeat (c .before .before .args .n) (c .before .before .args .wire) (c .before .before .args .major)
@@ -57,11 +48,4 @@ returns-4 c =
 pub judged-spec : {M : Type 1} → statement M
 judged-spec =
     tie.close
-    (tie.spec
-    distance-requires
-    following-requires
-    following-requires-2
-    returns
-    returns-2
-    returns-3
-    returns-4)
+    (tie.spec (λ c κs. search needs) (λ c κs. search needs) (λ c κs. search needs) returns returns-2 returns-3 returns-4)

@@ -5,12 +5,9 @@ use borrow.Author.Needs.{needs}
 use Rattle.cycle.proofs.number.missed_major.Statement.{statement}
 use Rattle.cycle.proofs.number.missed_major.Tie as tie
 
-sub-result : tie.Need-sub-result
-sub-result c = search needs
-
 returns : tie.Need-returns
 unfolding missedMajor
 returns c = refl
 
 pub missed-major-spec : {M : Type 1} → statement M
-missed-major-spec = tie.close (tie.spec sub-result returns)
+missed-major-spec = tie.close (tie.spec (λ c. search needs) returns)

@@ -4,12 +4,9 @@ use borrow.Author.Needs.{needs}
 use Rattle.cycle.proofs.string.bad_jets.Statement.{statement}
 use Rattle.cycle.proofs.string.bad_jets.Tie as tie
 
-without-requires : tie.Need-without-requires
-without-requires c κs = search needs
-
 returns : tie.Need-returns
 unfolding badJets
 returns c = c .without .ensures
 
 pub bad-jets-spec : {M : Type 1} → statement M
-bad-jets-spec = tie.close (tie.spec without-requires returns)
+bad-jets-spec = tie.close (tie.spec (λ c κs. search needs) returns)

@@ -2,12 +2,11 @@
 use lib.ListN.{getD}
 use Rattle.bits.proofs.Words.{pack-next}
 use borrow.Author.Needs.{needs}
-use mathlib.Core.Path.{_≡_, refl, ap, sym, _∙_}
-use Prim.Native.Nat.{ℕ, _≤_, _-_}
+use mathlib.Core.Path.{_≡_, _∙_}
+use Prim.Native.Nat.{_≤_, _-_}
 use native.Mathlib.Omega.{arith}
 use native.Mathlib.Numerals.{add-one}
 use Rattle.bits.specs.Bit.{pack}
-use Rattle.bits.proofs.Words.{with-is-plus}
 use Rattle.cycle.specs.Size.{manifoldCount}
 use Rattle.cycle.specs.Words.{asksClose, closeBits}
 use Rattle.cycle.proofs.string.close_bits.Statement.{statement}
@@ -22,24 +21,6 @@ abbrev μ-loop : tie.MeasureT-loop
 loop-holds : tie.Need-loop-holds Inv-loop μ-loop
 unfolding closeBits pack
 loop-holds c = search needs
-
-mul-asks-close : tie.Need-mul-asks-close Inv-loop μ-loop
-mul-asks-close c = search needs
-
-array-read-asks-close : tie.Need-array-read-asks-close Inv-loop μ-loop
-array-read-asks-close c = search needs
-
-asks-close-requires : tie.Need-asks-close-requires Inv-loop μ-loop
-asks-close-requires c κs = search needs
-
-with-bit-requires : tie.Need-with-bit-requires Inv-loop μ-loop
-with-bit-requires c κs = search needs
-
-add-i : tie.Need-add-i Inv-loop μ-loop
-add-i c = search needs
-
-loop-less : tie.Need-loop-less Inv-loop μ-loop
-loop-less c = search needs
 
 loop-again : tie.Need-loop-again Inv-loop μ-loop
 unfolding closeBits
@@ -59,15 +40,5 @@ returns c = let e : c .before .loop .i ≡ manifoldCount = omega arith in cc
 pub close-bits-spec : {M : Type 1} → statement M
 close-bits-spec =
     tie.close
-    (tie.spec
-    Inv-loop
-    μ-loop
-    loop-holds
-    mul-asks-close
-    array-read-asks-close
-    asks-close-requires
-    with-bit-requires
-    add-i
-    loop-less
-    loop-again
-    returns)
+    (tie.spec Inv-loop μ-loop loop-holds (λ c. search needs) (λ c. search needs) (λ c κs. search needs) (λ c κs. search needs)
+    (λ c. search needs) (λ c. search needs) loop-again returns)

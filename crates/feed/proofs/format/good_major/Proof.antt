@@ -1,37 +1,26 @@
 -- `feed::format::good_major` meets its contract. Assumes nothing.
 use mathlib.Core.Path.{_≡_, sym, _∙_}
-use mathlib.Core.Bool.{true, false, _&&_}
+use mathlib.Core.Bool.{_&&_}
 use mathlib.Core.List.{List}
 use Prim.Native.Nat.{ℕ}
 use native.Mathlib.Omega.{arith}
 use borrow.Author.Tests.{not-true, not-false}
 use lib.Seq.{length-take-le}
+use Rattle.feed.specs.Size.{majorSummed}
 use Rattle.feed.specs.Format.{reservedZero, quantitiesRight, goodMajor}
-use Rattle.feed.proofs.Sums.{major-sum, major-bad, major-reserved}
+use Rattle.feed.proofs.Records.Sums.{major-sum, major-bad, major-reserved}
 use borrow.Author.Needs.{needs}
 use Rattle.feed.proofs.format.good_major.Statement.{statement}
 use Rattle.feed.proofs.format.good_major.Tie as tie
 
-reserved-zero-requires : tie.Need-reserved-zero-requires
-reserved-zero-requires c κs = search needs
-
 returns : tie.Need-returns
 returns c = major-reserved _ (sym (c .before .reserved-zero .ensures) ∙ not-true _ (c .if1 .taken))
 
-two-at-requires : tie.Need-two-at-requires
-two-at-requires c κs = search needs
-
 slice-aggregate-sum : tie.Need-slice-aggregate-sum
-slice-aggregate-sum c = sym (length-take-le 613 (c .before .before .before .before .before .args .s .now) (omega arith))
-
-sum-requires : tie.Need-sum-requires
-sum-requires c κs = search needs
+slice-aggregate-sum c = sym (length-take-le majorSummed (c .before .before .before .before .before .args .s .now) (omega arith))
 
 returns-2 : tie.Need-returns-2
 returns-2 c = major-bad _ _ _ (c .before .before .before .two-at .ensures) (c .before .sum .ensures) (c .if2 .taken)
-
-quantities-right-requires : tie.Need-quantities-right-requires
-quantities-right-requires c κs = search needs
 
 returns-3 : tie.Need-returns-3
 returns-3 c =
@@ -46,12 +35,5 @@ returns-3 c =
 pub good-major-spec : {M : Type 1} → statement M
 good-major-spec =
     tie.close
-    (tie.spec
-    reserved-zero-requires
-    returns
-    two-at-requires
-    slice-aggregate-sum
-    sum-requires
-    returns-2
-    quantities-right-requires
-    returns-3)
+    (tie.spec (λ c κs. search needs) returns (λ c κs. search needs) slice-aggregate-sum (λ c κs. search needs) returns-2
+    (λ c κs. search needs) returns-3)

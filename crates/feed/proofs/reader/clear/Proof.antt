@@ -1,5 +1,5 @@
 -- `feed::reader::clear` meets its contract. The loop's invariant: the first i places are 0. Assumes nothing.
-use Rattle.feed.proofs.Moves.{cleared-all}
+use Rattle.feed.proofs.Reading.Moves.{cleared-all}
 use Prim.Native.Nat.{_≤_, _-_}
 use mathlib.Core.Path.{_≡_, refl, _∙_}
 use mathlib.Core.List.{_++_}
@@ -19,23 +19,11 @@ abbrev μ-loop : tie.MeasureT-loop
 loop-holds : tie.Need-loop-holds Inv-loop μ-loop
 loop-holds c = (omega arith, refl, refl)
 
-slice-write-s : tie.Need-slice-write-s Inv-loop μ-loop
-slice-write-s c = search needs
-
-add-i : tie.Need-add-i Inv-loop μ-loop
-add-i c = search needs
-
-loop-less : tie.Need-loop-less Inv-loop μ-loop
-loop-less c = search needs
-
 loop-again : tie.Need-loop-again Inv-loop μ-loop
 loop-again c =
     let l = c .before in
     let m = fill-more (l .loop .i) 0 (l .before .args .s .now) (search needs) in
     (search needs, simp length-set (l .loop .inv .1), rw (l .loop .inv .2) m)
-
-same-length : tie.Need-same-length Inv-loop μ-loop
-same-length c = search needs
 
 returns : tie.Need-returns Inv-loop μ-loop
 returns c = c .before .loop .inv .2 ∙ cleared-all (c .before .before .args .s .now) (c .before .loop .i) 0 (omega arith)
@@ -43,13 +31,5 @@ returns c = c .before .loop .inv .2 ∙ cleared-all (c .before .before .args .s 
 pub clear-spec : {M : Type 1} → statement M
 clear-spec =
     tie.close
-    (tie.spec
-    Inv-loop
-    μ-loop
-    loop-holds
-    slice-write-s
-    add-i
-    loop-less
-    loop-again
-    same-length
+    (tie.spec Inv-loop μ-loop loop-holds (λ c. search needs) (λ c. search needs) (λ c. search needs) loop-again (λ c. search needs)
     returns)

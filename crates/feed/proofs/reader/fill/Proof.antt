@@ -10,13 +10,12 @@ use lib.ListN.{length, drop, take, set, getD}
 use lib.Seq.{length-take-le}
 use Rattle.feed.specs.Size.{storeLength}
 use Rattle.feed.specs.Reader.{settle, store, reads}
-use Rattle.feed.specs.declared.format.Kind.the-variants.{NoKind}
-use Rattle.feed.proofs.Fronts.{settle-short}
-use Rattle.feed.proofs.Stores.{length-store}
-use Rattle.feed.proofs.Turns.{Turn, turn-long, turn-fits, turn-count, turn-at, turn-stay, turn-gone}
-use Rattle.feed.proofs.Turns.{turn-found, turn-end, turn-room, turn-more}
-use Rattle.feed.proofs.Skipping.{turn-skip}
-use Rattle.feed.proofs.Copies.{calm-room, turn-copy, part-long}
+use Rattle.feed.proofs.Reading.Fronts.{settle-short}
+use Rattle.feed.proofs.Reading.Stores.{length-store}
+use Rattle.feed.proofs.Reading.Turns.{Turn, turn-long, turn-fits, turn-count, turn-at, turn-stay, turn-gone}
+use Rattle.feed.proofs.Reading.Turns.{turn-found, turn-end, turn-room, turn-more}
+use Rattle.feed.proofs.Reading.Skipping.{turn-skip}
+use Rattle.feed.proofs.Reading.Copies.{calm-room, turn-copy, part-long}
 use Rattle.feed.proofs.reader.fill.Statement.{statement}
 use Rattle.feed.proofs.reader.fill.Tie as tie
 
@@ -44,9 +43,6 @@ slice-reshare-prefix-find-front c = turn-fits _ _ _ _ _ (c .loop .inv)
 
 slice-aggregate-find-front : tie.Need-slice-aggregate-find-front Inv-loop μ-loop
 slice-aggregate-find-front c = turn-count _ _ _ _ _ (c .before .loop .inv)
-
-find-front-requires : tie.Need-find-front-requires Inv-loop μ-loop
-find-front-requires c κs = search needs
 
 slice-relend-prefix-shift : tie.Need-slice-relend-prefix-shift Inv-loop μ-loop
 slice-relend-prefix-shift c = turn-fits _ _ _ _ _ (c .before .before .before .loop .inv)
@@ -87,67 +83,56 @@ same c =
     let k = settle-short (t .held) in
     ap length (j .0) ∙ length-store (settle (t .held)) (omega (arith, t .long, t .fits))
 
-enum-told : tie.Need-enum-told Inv-loop μ-loop
-enum-told c = search needs
-
 same-length : tie.Need-same-length Inv-loop μ-loop
 same-length c = same (c .before) ∙ sym (c .before .before .before .before .before .before .before .pre .0)
-
--- a record is there
-real : (c : tie.At-match-keys2 Inv-loop μ-loop) → c .before .before .find-front .result .kind ≡ NoKind → ⊥
-real c q = ⊎-elim (λ w. omega arith) (λ w. omega arith) (rw q at (c .match .keys2))
 
 returns : tie.Need-returns Inv-loop μ-loop
 returns c =
     let j = joined (c .before) in
     let d = c .before .before in
-    turn-found _ _ _ _ _ (d .before .before .loop .inv) _ (d .find-front .ensures) _ _ (j .0) (j .1) (real c)
+    turn-found _ _ _ _ _ (d .before .before .loop .inv) _ (d .find-front .ensures) _ _ (j .0) (j .1) (c .if2 .taken)
 
 same-length-2 : tie.Need-same-length-2 Inv-loop μ-loop
 same-length-2 c =
-    let d = c .before .before .before in
+    let d = c .before .before in
     same d ∙ sym (d .before .before .before .before .before .before .pre .0)
 
 returns-2 : tie.Need-returns-2 Inv-loop μ-loop
 returns-2 c =
-    let j = joined (c .before .before .before) in
-    let d = c .before .before .before .before in
-    let k = c .before .enum-told .given .1 in
-    turn-end _ _ _ _ _ (d .before .before .loop .inv) _ (d .find-front .ensures) _ _ (j .0) (j .1) k (c .if2 .taken)
+    let j = joined (c .before .before) in
+    let d = c .before .before .before in
+    turn-end _ _ _ _ _ (d .before .before .loop .inv) _ (d .find-front .ensures) _ _ (j .0) (j .1) (c .before .if2 .left) (c .if3 .taken)
 
 skipped-requires : tie.Need-skipped-requires Inv-loop μ-loop
-skipped-requires c κs = let w = c .before .before .before .before .before .before .loop .inv .within in search needs
+skipped-requires c κs = let w = c .before .before .before .before .before .loop .inv .within in search needs
 
 shared-slice-read-b : tie.Need-shared-slice-read-b Inv-loop μ-loop
 shared-slice-read-b c = c .before .skipped .ensures .within
 
 -- a place is free
-room : (c : tie.Else2 Inv-loop μ-loop) → c .before .before .before .if1 .n < storeLength
+room : (c : tie.Else3 Inv-loop μ-loop) → c .before .before .if1 .n < storeLength
 room c =
-    let j = joined (c .before .before .before) in
-    let d = c .before .before .before .before in
-    turn-room _ _ _ _ _ (d .before .before .loop .inv) _ (d .find-front .ensures) _ _ (j .0) (j .1) (c .before .enum-told .given .1)
+    let j = joined (c .before .before) in
+    let d = c .before .before .before in
+    turn-room _ _ _ _ _ (d .before .before .loop .inv) _ (d .find-front .ensures) _ _ (j .0) (j .1) (c .before .if2 .left)
 
 slice-write-b : tie.Need-slice-write-b Inv-loop μ-loop
 slice-write-b c =
     let r = room (c .before .before) in
-    omega (arith, same (c .before .before .before .before .before))
+    omega (arith, same (c .before .before .before .before))
 
 add-n : tie.Need-add-n Inv-loop μ-loop
 add-n c = let r = room (c .before .before .before) in omega arith
 
-add-used : tie.Need-add-used Inv-loop μ-loop
-add-used c = search needs
-
 -- the places that the needs below speak of
 abbrev start : tie.After-row-known Inv-loop μ-loop → tie.Start Inv-loop μ-loop
-start c = c .before .before .before .before .before .before .before .before .before .before .before .before
+start c = c .before .before .before .before .before .before .before .before .before .before .before
 
 abbrev head : tie.After-row-known Inv-loop μ-loop → tie.At-loop Inv-loop μ-loop
-head c = c .before .before .before .before .before .before .before .before .before
+head c = c .before .before .before .before .before .before .before .before
 
 abbrev joint : tie.After-row-known Inv-loop μ-loop → tie.Joined1 Inv-loop μ-loop
-joint c = c .before .before .before .before .before .before
+joint c = c .before .before .before .before .before
 
 -- where the byte is taken
 abbrev next : tie.After-row-known Inv-loop μ-loop → ℕ
@@ -163,7 +148,7 @@ taken : (c : tie.After-row-known Inv-loop μ-loop)
     (next c + 1)
 taken c =
     let j = joined (joint c) in
-    let k = c .before .before .before .before .enum-told .given .1 in
+    let k = c .before .before .before .before .if2 .left in
     let skips = c .before .before .skipped .ensures in
     let t = turn-skip _ _ _ _ _ (head c .loop .inv) _ _ (j .1) skips in
     turn-more _ _ _ _ _ t _ (joint c .before .find-front .ensures) _ _ (j .0) (j .1) k (skips .within)
@@ -176,9 +161,6 @@ slice-aggregate-calm c = turn-count _ _ _ _ _ (taken (c .before))
 
 sub-calm : tie.Need-sub-calm Inv-loop μ-loop
 sub-calm c = taken (c .before) .within
-
-calm-requires : tie.Need-calm-requires Inv-loop μ-loop
-calm-requires c κs = search needs
 
 -- the bytes that are taken with no look fit
 calmly : (c : tie.After-calm Inv-loop μ-loop)
@@ -236,41 +218,8 @@ loop-again c =
 pub fill-spec : {M : Type 1} → statement M
 fill-spec =
     tie.close
-    (tie.spec
-    Inv-loop
-    μ-loop
-    loop-holds
-    slice-reshare-prefix-find-front
-    slice-aggregate-find-front
-    find-front-requires
-    slice-relend-prefix-shift
-    slice-aggregate-shift
-    shift-requires
-    sub-n
-    enum-told
-    same-length
-    returns
-    same-length-2
-    returns-2
-    skipped-requires
-    shared-slice-read-b
-    slice-write-b
-    add-n
-    add-used
-    slice-reshare-prefix-calm
-    slice-aggregate-calm
-    sub-calm
-    calm-requires
-    add-copy
-    sub-copy
-    part-copy-start
-    part-copy-end
-    add-copy-2
-    sub-copy-2
-    part-copy-start-2
-    part-copy-end-2
-    copy-requires
-    add-n-2
-    add-used-2
-    loop-less
-    loop-again)
+    (tie.spec Inv-loop μ-loop loop-holds slice-reshare-prefix-find-front slice-aggregate-find-front (λ c κs. search needs)
+    slice-relend-prefix-shift slice-aggregate-shift shift-requires sub-n same-length returns same-length-2 returns-2 skipped-requires
+    shared-slice-read-b slice-write-b add-n (λ c. search needs) slice-reshare-prefix-calm slice-aggregate-calm sub-calm
+    (λ c κs. search needs) add-copy sub-copy part-copy-start part-copy-end add-copy-2 sub-copy-2 part-copy-start-2 part-copy-end-2
+    copy-requires add-n-2 add-used-2 loop-less loop-again)

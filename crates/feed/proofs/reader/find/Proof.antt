@@ -10,9 +10,9 @@ use lib.Seq.{take-all, length-take-le}
 use Rattle.feed.specs.Size.{storeLength}
 use Rattle.feed.specs.Format.{look}
 use Rattle.feed.specs.Reader.{store}
-use Rattle.feed.proofs.Finding.{finds-filled, held-place, none-held, finds-none, whole-within}
-use Rattle.feed.proofs.Finding.{Passed, passed-none, passed-more, passed-waits, passed-loses, passed-settles, passed-end}
-use Rattle.feed.proofs.Skipping.{passed-other}
+use Rattle.feed.proofs.Reading.Finding.{finds-filled, held-place, none-held, finds-none, whole-within}
+use Rattle.feed.proofs.Reading.Finding.{Passed, passed-none, passed-more, passed-waits, passed-loses, passed-settles, passed-end}
+use Rattle.feed.proofs.Reading.Skipping.{passed-other}
 use Rattle.feed.proofs.reader.find.Statement.{statement}
 use Rattle.feed.proofs.reader.find.Tie as tie
 
@@ -41,31 +41,10 @@ returns c =
 loop-holds : tie.Need-loop-holds Inv-loop μ-loop
 loop-holds c = (refl, passed-none _ _ (c .before .before .before .pre .1 .2))
 
-shared-slice-read-if2 : tie.Need-shared-slice-read-if2 Inv-loop μ-loop
-shared-slice-read-if2 c = search needs
-
-add-at : tie.Need-add-at Inv-loop μ-loop
-add-at c = search needs
-
-loop-less : tie.Need-loop-less Inv-loop μ-loop
-loop-less c = search needs
-
 loop-again : tie.Need-loop-again Inv-loop μ-loop
 loop-again c =
     let v = c .before .before .before .loop .inv in
     (v .0, passed-other _ _ _ (v .1) (search needs) (c .if2 .taken))
-
-sub-look-at : tie.Need-sub-look-at Inv-loop μ-loop
-sub-look-at c = search needs
-
-part-look-at-start : tie.Need-part-look-at-start Inv-loop μ-loop
-part-look-at-start c = search needs
-
-part-look-at-end : tie.Need-part-look-at-end Inv-loop μ-loop
-part-look-at-end c = search needs
-
-look-at-requires : tie.Need-look-at-requires Inv-loop μ-loop
-look-at-requires c κs = search needs
 
 -- the turn in which a look is taken
 abbrev head : tie.After-look-at Inv-loop μ-loop → tie.At-loop Inv-loop μ-loop
@@ -90,22 +69,10 @@ none c =
 long : (c : tie.At-loop Inv-loop μ-loop) → length (c .loop .b) ≡ storeLength
 long c = ap length (c .loop .inv .0) ∙ c .before .before .before .before .pre .0
 
-enum-told : tie.Need-enum-told Inv-loop μ-loop
-enum-told c = search needs
-
-add-at-2 : tie.Need-add-at-2 Inv-loop μ-loop
-add-at-2 c = search needs
-
-loop-less-2 : tie.Need-loop-less-2 Inv-loop μ-loop
-loop-less-2 c = search needs
-
 loop-again-2 : tie.Need-loop-again-2 Inv-loop μ-loop
 loop-again-2 c =
     let l = head (c .before .before) in
     (l .loop .inv .0, passed-more _ _ _ (l .loop .inv .1) (search needs) (sym (seen (c .before .before)) ∙ c .enum-told .given .1))
-
-enum-told-2 : tie.Need-enum-told-2 Inv-loop μ-loop
-enum-told-2 c = search needs
 
 fill-requires-2 : tie.Need-fill-requires-2 Inv-loop μ-loop
 fill-requires-2 c κs =
@@ -125,9 +92,6 @@ returns-2 c =
     let e = sym (seen (d .before .before)) ∙ d .enum-told2 .given .1 in
     finds-none _ _ _ _ _ _ (l .before .if1 .left) (passed-waits _ _ _ (l .loop .inv .1) e _ _ (f .0) (f .1))
 
-enum-told-3 : tie.Need-enum-told-3 Inv-loop μ-loop
-enum-told-3 c = search needs
-
 fill-requires-3 : tie.Need-fill-requires-3 Inv-loop μ-loop
 fill-requires-3 c κs =
     let l = head (c .before .before .before) in
@@ -145,12 +109,6 @@ returns-3 c =
     let l = head (d .before .before) in
     let e = sym (seen (d .before .before)) ∙ d .enum-told3 .given .1 in
     finds-none _ _ _ _ _ _ (l .before .if1 .left) (passed-loses _ _ _ (l .loop .inv .1) e _ _ (f .0) (f .1))
-
-enum-known-k : tie.Need-enum-known-k Inv-loop μ-loop
-enum-known-k c = search needs
-
-length-of-requires : tie.Need-length-of-requires Inv-loop μ-loop
-length-of-requires c κs = search needs
 
 add-t23 : tie.Need-add-t23 Inv-loop μ-loop
 add-t23 c =
@@ -180,37 +138,8 @@ returns-5 c =
 pub find-spec : {M : Type 1} → statement M
 find-spec =
     tie.close
-    (tie.spec
-    Inv-loop
-    μ-loop
-    fill-requires
-    same-length
-    returns
-    loop-holds
-    shared-slice-read-if2
-    add-at
-    loop-less
-    loop-again
-    sub-look-at
-    part-look-at-start
-    part-look-at-end
-    look-at-requires
-    enum-told
-    add-at-2
-    loop-less-2
-    loop-again-2
-    enum-told-2
-    fill-requires-2
-    same-length-2
-    returns-2
-    enum-told-3
-    fill-requires-3
-    same-length-3
-    returns-3
-    enum-known-k
-    length-of-requires
-    add-t23
-    same-length-4
-    returns-4
-    same-length-5
-    returns-5)
+    (tie.spec Inv-loop μ-loop fill-requires same-length returns loop-holds (λ c. search needs) (λ c. search needs) (λ c. search needs)
+    loop-again (λ c. search needs) (λ c. search needs) (λ c. search needs) (λ c κs. search needs) (λ c. search needs)
+    (λ c. search needs) (λ c. search needs) loop-again-2 (λ c. search needs) fill-requires-2 same-length-2 returns-2
+    (λ c. search needs) fill-requires-3 same-length-3 returns-3 (λ c. search needs) (λ c κs. search needs) add-t23 same-length-4
+    returns-4 same-length-5 returns-5)

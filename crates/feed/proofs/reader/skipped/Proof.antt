@@ -4,8 +4,8 @@ use mathlib.Core.Path.{_≡_}
 use native.Mathlib.Omega.{arith}
 use borrow.Author.Needs.{needs}
 use lib.ListN.{length}
-use Rattle.feed.specs.Inside.{Skips}
-use Rattle.feed.proofs.Skipping.{skip-none, skip-on}
+use Rattle.feed.specs.Inside.Finding.{Skips}
+use Rattle.feed.proofs.Reading.Skipping.{skip-none, skip-on}
 use Rattle.feed.proofs.reader.skipped.Statement.{statement}
 use Rattle.feed.proofs.reader.skipped.Tie as tie
 
@@ -18,23 +18,11 @@ abbrev μ-loop : tie.MeasureT-loop
 returns : tie.Need-returns Inv-loop μ-loop
 returns c = skip-none _ _ _ (c .before .pre)
 
-sub-last : tie.Need-sub-last Inv-loop μ-loop
-sub-last c = search needs
-
 loop-holds : tie.Need-loop-holds Inv-loop μ-loop
 loop-holds c = let h = c .before .pre in (search needs, omega arith, skip-none _ _ _ h)
 
-shared-slice-read-if2 : tie.Need-shared-slice-read-if2 Inv-loop μ-loop
-shared-slice-read-if2 c = search needs
-
 returns-2 : tie.Need-returns-2 Inv-loop μ-loop
 returns-2 c = c .before .before .before .loop .inv .2
-
-add-at : tie.Need-add-at Inv-loop μ-loop
-add-at c = search needs
-
-loop-less : tie.Need-loop-less Inv-loop μ-loop
-loop-less c = search needs
 
 loop-again : tie.Need-loop-again Inv-loop μ-loop
 loop-again c =
@@ -48,15 +36,5 @@ returns-3 c = c .before .loop .inv .2
 pub skipped-spec : {M : Type 1} → statement M
 skipped-spec =
     tie.close
-    (tie.spec
-    Inv-loop
-    μ-loop
-    returns
-    sub-last
-    loop-holds
-    shared-slice-read-if2
-    returns-2
-    add-at
-    loop-less
-    loop-again
-    returns-3)
+    (tie.spec Inv-loop μ-loop returns (λ c. search needs) loop-holds (λ c. search needs) returns-2 (λ c. search needs)
+    (λ c. search needs) loop-again returns-3)

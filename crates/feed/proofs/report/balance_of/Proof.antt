@@ -9,6 +9,7 @@ use Rattle.bits.specs.Bit.{withBit}
 use Rattle.cycle.specs.Size.{moduleCount}
 use Rattle.cycle.specs.Banks.{noBank}
 use Rattle.cycle.specs.declared.banks.Bank.{Bank}
+use Rattle.feed.specs.Size.{oxidizerFrom}
 use Rattle.feed.specs.Report.{balanceOf}
 use Rattle.cycle.proofs.Loops.{ended}
 use Rattle.feed.proofs.report.balance_of.Statement.{statement}
@@ -22,34 +23,13 @@ abbrev μ-loop : tie.MeasureT-loop
 
 -- one turn sets a module's two bits
 both-bits : (banks : List Bank) (m : ℕ) {w v r : ℕ} → w ≡ balanceOf m banks → v ≡ withBit w m ((getD banks m noBank) .unbalanced)
-    → r ≡ withBit v (4 + m) ((getD banks m noBank) .oxidizer) → r ≡ balanceOf (m + 1) banks
+    → r ≡ withBit v (oxidizerFrom + m) ((getD banks m noBank) .oxidizer) → r ≡ balanceOf (m + 1) banks
 unfolding balanceOf
 both-bits banks m e p q = rw add-one (cc)
 
 loop-holds : tie.Need-loop-holds Inv-loop μ-loop
 unfolding balanceOf
 loop-holds c = search needs
-
-mul-b : tie.Need-mul-b Inv-loop μ-loop
-mul-b c = search needs
-
-array-copy-out-b : tie.Need-array-copy-out-b Inv-loop μ-loop
-array-copy-out-b c = search needs
-
-with-bit-requires : tie.Need-with-bit-requires Inv-loop μ-loop
-with-bit-requires c κs = search needs
-
-add-with-bit : tie.Need-add-with-bit Inv-loop μ-loop
-add-with-bit c = search needs
-
-with-bit-requires-2 : tie.Need-with-bit-requires-2 Inv-loop μ-loop
-with-bit-requires-2 c κs = search needs
-
-add-m : tie.Need-add-m Inv-loop μ-loop
-add-m c = search needs
-
-loop-less : tie.Need-loop-less Inv-loop μ-loop
-loop-less c = search needs
 
 loop-again : tie.Need-loop-again Inv-loop μ-loop
 loop-again c =
@@ -66,12 +46,12 @@ balance-of-spec =
     Inv-loop
     μ-loop
     loop-holds
-    mul-b
-    array-copy-out-b
-    with-bit-requires
-    add-with-bit
-    with-bit-requires-2
-    add-m
-    loop-less
+    (λ c. search needs)
+    (λ c. search needs)
+    (λ c κs. search needs)
+    (λ c. search needs)
+    (λ c κs. search needs)
+    (λ c. search needs)
+    (λ c. search needs)
     loop-again
     returns)

@@ -1,32 +1,57 @@
 -- `feed::report::put_lesser` meets its contract. Assumes nothing.
-use mathlib.Core.Path.{_∙_}
 use borrow.Author.Needs.{needs}
-use Rattle.feed.proofs.Written.{sets-all}
-use Rattle.feed.specs.Bytes.{lowTwo}
+use mathlib.Core.Path.{refl}
+use Prim.Native.Nat.{_+_, _*_, _-_}
+use native.Mathlib.Omega.{arith}
+use Rattle.cycle.specs.Size.{moduleCount}
+use Rattle.feed.specs.Size.{lesserFrom, lesserLength}
+use Rattle.feed.specs.Report.{lesserShown, lesserBytes}
+use Rattle.feed.proofs.Reports.Written.{put-part, Putting, putting-none, putting-next, putting-end}
 use Rattle.feed.proofs.report.put_lesser.Statement.{statement}
 use Rattle.feed.proofs.report.put_lesser.Tie as tie
 
-turned16-requires : tie.Need-turned16-requires
-turned16-requires c κs = search needs
+abbrev Inv-loop : tie.InvT-loop
+Inv-loop out₀ banks m₀ out m = Putting out₀ lesserFrom lesserLength moduleCount (lesserShown banks) out m
 
-cast-s : tie.Need-cast-s
-cast-s c = search needs
+abbrev μ-loop : tie.MeasureT-loop
+μ-loop out₀ banks m₀ out m = moduleCount - m
 
-slice-write-s : tie.Need-slice-write-s
-slice-write-s c = search needs
+loop-again : tie.Need-loop-again Inv-loop μ-loop
+loop-again c =
+    let in-loop = c .before .before .before .before .before in
+    let l = in-loop .before in
+    let a = l .before .before .args in
+    let y = c .before .before .put-two .last .0 in
+    let e =
+    put-part (lesserShown (a .t2) (l .loop .m)) (l .loop .out) y (lesserFrom + lesserLength * l .loop .m)
+    (lesserFrom + lesserLength * l .loop .m + lesserLength) refl (search needs) (c .before .before .put-two .ensures) in
+    putting-next (a .out .now) lesserFrom lesserLength moduleCount (lesserShown (a .t2)) (l .loop .out) y (l .loop .m) (λ k. refl)
+    (omega (arith, l .before .before .pre)) (l .loop .inv) (in-loop .loop-test .taken) e (c .before .out .given .1)
 
-cast-s-2 : tie.Need-cast-s-2
-cast-s-2 c = search needs
-
-slice-write-s-2 : tie.Need-slice-write-s-2
-slice-write-s-2 c = search needs
-
-same-length : tie.Need-same-length
-same-length c = search needs
-
-returns : tie.Need-returns
-returns c = sets-all (c .before .before .args .s .now) (lowTwo (c .turned16 .result)) (search needs) ∙ c .turned16 .ensures
+returns : tie.Need-returns Inv-loop μ-loop
+unfolding lesserBytes
+returns c =
+    let a = c .before .before .before .args in
+    putting-end (a .out .now) lesserFrom lesserLength moduleCount (lesserShown (a .t2)) _ _ (c .before .loop .inv) (c .loop-test .left)
 
 pub put-lesser-spec : {M : Type 1} → statement M
 put-lesser-spec =
-    tie.close (tie.spec turned16-requires cast-s slice-write-s cast-s-2 slice-write-s-2 same-length returns)
+    tie.close
+    (tie.spec
+    Inv-loop
+    μ-loop
+    (λ c. putting-none _ _ _ _ _)
+    (λ c. search needs)
+    (λ c. search needs)
+    (λ c. search needs)
+    (λ c. search needs)
+    (λ c. search needs)
+    (λ c. search needs)
+    (λ c. search needs)
+    (λ c. search needs)
+    (λ c κs. search needs)
+    (λ c. search needs)
+    (λ c. search needs)
+    loop-again
+    (λ c. search needs)
+    returns)

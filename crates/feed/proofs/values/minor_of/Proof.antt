@@ -7,15 +7,6 @@ use Rattle.feed.specs.Values.{minorOf}
 use Rattle.feed.proofs.values.minor_of.Statement.{statement}
 use Rattle.feed.proofs.values.minor_of.Tie as tie
 
-samples-of-requires : tie.Need-samples-of-requires
-samples-of-requires c κs = search needs
-
-two-at-requires : tie.Need-two-at-requires
-two-at-requires c κs = search needs
-
-shared-slice-read-t5 : tie.Need-shared-slice-read-t5
-shared-slice-read-t5 c = search needs
-
 returns : tie.Need-returns
 unfolding minorOf
 returns c =
@@ -25,4 +16,4 @@ returns c =
 
 pub minor-of-spec : {M : Type 1} → statement M
 minor-of-spec =
-    tie.close (tie.spec samples-of-requires two-at-requires shared-slice-read-t5 returns)
+    tie.close (tie.spec (λ c κs. search needs) (λ c κs. search needs) (λ c. search needs) returns)

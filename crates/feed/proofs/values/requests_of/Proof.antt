@@ -1,51 +1,26 @@
 -- `feed::values::requests_of` meets its contract. Assumes nothing.
 use borrow.Author.Needs.{needs}
-use mathlib.Core.Path.{_≡_}
-use Prim.Native.Nat.{_≤_, _-_}
-use Rattle.cycle.specs.Each.{each}
+use mathlib.Core.Path.{refl}
+use Prim.Native.Nat.{_+_, _*_, _-_}
 use Rattle.cycle.specs.Size.{stringCount}
-use Rattle.feed.specs.Values.{requestsOf}
-use Rattle.cycle.proofs.Loops.{turned, ended}
+use Rattle.feed.specs.Size.{requestsFrom, requestsLength}
+use Rattle.feed.specs.Values.{requestsAt, requestsOf}
+use Rattle.feed.proofs.Records.Tables.{Filling, filling-none, filling-next, filling-end}
 use Rattle.feed.proofs.values.requests_of.Statement.{statement}
 use Rattle.feed.proofs.values.requests_of.Tie as tie
 
 abbrev Inv-loop : tie.InvT-loop
-Inv-loop s all₀ k₀ all k = (k ≤ stringCount) × (all ≡ requestsOf k s)
+Inv-loop s all₀ k₀ all k = Filling (λ j. requestsAt s (requestsFrom + requestsLength * j)) stringCount all₀ all k
 
 abbrev μ-loop : tie.MeasureT-loop
 μ-loop s all₀ k₀ all k = stringCount - k
 
-loop-holds : tie.Need-loop-holds Inv-loop μ-loop
-unfolding requestsOf each
-loop-holds c = search needs
-
-mul-requests-at : tie.Need-mul-requests-at Inv-loop μ-loop
-mul-requests-at c = search needs
-
-add-requests-at : tie.Need-add-requests-at Inv-loop μ-loop
-add-requests-at c = search needs
-
-requests-at-requires : tie.Need-requests-at-requires Inv-loop μ-loop
-requests-at-requires c κs = search needs
-
-mul-all : tie.Need-mul-all Inv-loop μ-loop
-mul-all c = search needs
-
-array-set-from-all : tie.Need-array-set-from-all Inv-loop μ-loop
-array-set-from-all c = search needs
-
-add-k : tie.Need-add-k Inv-loop μ-loop
-add-k c = search needs
-
-loop-less : tie.Need-loop-less Inv-loop μ-loop
-loop-less c = search needs
-
 loop-again : tie.Need-loop-again Inv-loop μ-loop
-unfolding requestsOf
-loop-again c = (search needs, turned _ _ _ _ _ _ (c .before .before .loop .inv .1) (c .requests-at .ensures))
+loop-again c = filling-next _ _ _ _ _ _ refl (c .before .before .loop .inv) (c .before .loop-test .taken) (c .requests-at .ensures)
 
 returns : tie.Need-returns Inv-loop μ-loop
-returns c = ended (λ k. requestsOf k (c .before .before .before .args .s .now)) (c .before .loop .inv) (c .loop-test .left)
+unfolding requestsOf
+returns c = filling-end _ _ _ _ _ refl (c .before .loop .inv) (c .loop-test .left)
 
 pub requests-of-spec : {M : Type 1} → statement M
 requests-of-spec =
@@ -53,13 +28,13 @@ requests-of-spec =
     (tie.spec
     Inv-loop
     μ-loop
-    loop-holds
-    mul-requests-at
-    add-requests-at
-    requests-at-requires
-    mul-all
-    array-set-from-all
-    add-k
-    loop-less
+    (λ c. filling-none _ _ _)
+    (λ c. search needs)
+    (λ c. search needs)
+    (λ c κs. search needs)
+    (λ c. search needs)
+    (λ c. search needs)
+    (λ c. search needs)
+    (λ c. search needs)
     loop-again
     returns)

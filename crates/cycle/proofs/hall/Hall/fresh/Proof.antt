@@ -7,12 +7,6 @@ use borrow.Author.Needs.{needs}
 use Rattle.cycle.proofs.hall.Hall.fresh.Statement.{statement}
 use Rattle.cycle.proofs.hall.Hall.fresh.Tie as tie
 
-fresh-requires : tie.Need-fresh-requires
-fresh-requires c κs = search needs
-
-unknown-requires : tie.Need-unknown-requires
-unknown-requires c κs = search needs
-
 returns : tie.Need-returns
 unfolding freshHall
 returns c =
@@ -21,4 +15,4 @@ returns c =
     (c .before .fresh .ensures) (c .unknown .ensures)
 
 pub fresh-spec : {M : Type 1} → statement M
-fresh-spec = tie.close (tie.spec fresh-requires unknown-requires returns)
+fresh-spec = tie.close (tie.spec (λ c κs. search needs) (λ c κs. search needs) returns)

@@ -3,8 +3,8 @@ use Rattle.cycle.specs.Hall.{taken, stepped}
 use Rattle.cycle.specs.declared.answer.Answer.the-variants.{Taken}
 use Rattle.cycle.specs.declared.hall.Hall.{Hall}
 use Rattle.cycle.specs.declared.hall.Stepped.{Stepped}
-use mathlib.Core.Path.{_≡_, sym, ap, ap₂, _∙_}
-use mathlib.Core.Bool.{true, false}
+use mathlib.Core.Path.{_≡_, sym, ap, _∙_}
+use mathlib.Core.Bool.{false}
 use Rattle.cycle.specs.Numbers.{judged}
 use Rattle.cycle.specs.declared.number.Verdict.the-variants.{Takes, Refuses}
 use borrow.Author.Needs.{needs}
@@ -14,18 +14,6 @@ use Rattle.cycle.proofs.hall.Hall.minor.Tie as tie
 -- what a taken record gives back
 steppedTo : Hall → Stepped
 steppedTo h = record { answer = Taken; hall = h }
-
-judged-requires : tie.Need-judged-requires
-judged-requires c κs = search needs
-
-enum-known-v : tie.Need-enum-known-v
-enum-known-v c = search needs
-
-minor-taken-requires : tie.Need-minor-taken-requires
-minor-taken-requires c κs = search needs
-
-enum-known-v-2 : tie.Need-enum-known-v-2
-enum-known-v-2 c = search needs
 
 returns : tie.Need-returns
 unfolding stepped taken steppedTo
@@ -46,4 +34,4 @@ returns-2 c =
 pub minor-spec : {M : Type 1} → statement M
 minor-spec =
     tie.close
-    (tie.spec judged-requires enum-known-v minor-taken-requires enum-known-v-2 returns returns-2)
+    (tie.spec (λ c κs. search needs) (λ c. search needs) (λ c κs. search needs) (λ c. search needs) returns returns-2)

@@ -18,18 +18,6 @@ loop-holds : tie.Need-loop-holds Inv-loop μ-loop
 unfolding mapped
 loop-holds c = search needs
 
-mul-w : tie.Need-mul-w Inv-loop μ-loop
-mul-w c = search needs
-
-array-read-w : tie.Need-array-read-w Inv-loop μ-loop
-array-read-w c = search needs
-
-add-i : tie.Need-add-i Inv-loop μ-loop
-add-i c = search needs
-
-loop-less : tie.Need-loop-less Inv-loop μ-loop
-loop-less c = search needs
-
 loop-again : tie.Need-loop-again Inv-loop μ-loop
 loop-again c =
     let l = c .before in
@@ -41,4 +29,5 @@ returns c = ended (λ i. mapped i (c .before .before .before .args .self .words)
 pub mapped-spec : {M : Type 1} → statement M
 mapped-spec =
     tie.close
-    (tie.spec Inv-loop μ-loop loop-holds mul-w array-read-w add-i loop-less loop-again returns)
+    (tie.spec Inv-loop μ-loop loop-holds (λ c. search needs) (λ c. search needs) (λ c. search needs) (λ c. search needs) loop-again
+    returns)

@@ -18,27 +18,6 @@ loop-holds : tie.Need-loop-holds Inv-loop μ-loop
 unfolding mapped overlap
 loop-holds c = search needs
 
-mul-meets : tie.Need-mul-meets Inv-loop μ-loop
-mul-meets c = search needs
-
-array-read-meets : tie.Need-array-read-meets Inv-loop μ-loop
-array-read-meets c = search needs
-
-meets-requires : tie.Need-meets-requires Inv-loop μ-loop
-meets-requires c κs = search needs
-
-mul-seen : tie.Need-mul-seen Inv-loop μ-loop
-mul-seen c = search needs
-
-array-read-seen : tie.Need-array-read-seen Inv-loop μ-loop
-array-read-seen c = search needs
-
-add-i : tie.Need-add-i Inv-loop μ-loop
-add-i c = search needs
-
-loop-less : tie.Need-loop-less Inv-loop μ-loop
-loop-less c = search needs
-
 loop-again : tie.Need-loop-again Inv-loop μ-loop
 loop-again c =
     let l = c .before .before in
@@ -56,16 +35,5 @@ returns c =
 pub overlap-spec : {M : Type 1} → statement M
 overlap-spec =
     tie.close
-    (tie.spec
-    Inv-loop
-    μ-loop
-    loop-holds
-    mul-meets
-    array-read-meets
-    meets-requires
-    mul-seen
-    array-read-seen
-    add-i
-    loop-less
-    loop-again
-    returns)
+    (tie.spec Inv-loop μ-loop loop-holds (λ c. search needs) (λ c. search needs) (λ c κs. search needs) (λ c. search needs)
+    (λ c. search needs) (λ c. search needs) (λ c. search needs) loop-again returns)

@@ -5,15 +5,6 @@ use borrow.Author.Needs.{needs}
 use Rattle.cycle.proofs.string.AtManifold.manifold.Statement.{statement}
 use Rattle.cycle.proofs.string.AtManifold.manifold.Tie as tie
 
-without-requires : tie.Need-without-requires
-without-requires c κs = search needs
-
-without-requires-2 : tie.Need-without-requires-2
-without-requires-2 c κs = search needs
-
-without-requires-3 : tie.Need-without-requires-3
-without-requires-3 c κs = search needs
-
 returns : tie.Need-returns
 unfolding manifold
 returns c =
@@ -37,11 +28,4 @@ returns-4 c = rw (c .before .if1 .left, c .if3 .left)
 pub manifold-spec : {M : Type 1} → statement M
 manifold-spec =
     tie.close
-    (tie.spec
-    without-requires
-    without-requires-2
-    without-requires-3
-    returns
-    returns-2
-    returns-3
-    returns-4)
+    (tie.spec (λ c κs. search needs) (λ c κs. search needs) (λ c κs. search needs) returns returns-2 returns-3 returns-4)

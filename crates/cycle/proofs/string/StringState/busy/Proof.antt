@@ -1,6 +1,6 @@
 -- `cycle::string::StringState::busy` meets its contract. Assumes nothing.
 use mathlib.Core.Path.{refl}
-use Rattle.cycle.specs.Quiet.{busy}
+use Rattle.cycle.specs.Inside.Quiet.{busy}
 use Rattle.cycle.proofs.string.StringState.busy.Statement.{statement}
 use Rattle.cycle.proofs.string.StringState.busy.Tie as tie
 

@@ -1,5 +1,4 @@
 -- `cycle::string::StringState::gapped` meets its contract. Assumes nothing.
-use borrow.Author.Needs.{needs}
 use mathlib.Core.Path.{ap}
 use mathlib.Core.Logic.{⊎-elim}
 use Rattle.cycle.specs.Words.{gapped, withOn, noOn}

@@ -2,11 +2,10 @@
 use Rattle.cycle.specs.Words.{remembered}
 use mathlib.Core.List.{List}
 use borrow.Author.Needs.{needs}
-use mathlib.Core.Path.{_≡_, refl, ap, sym, _∙_}
+use mathlib.Core.Path.{_≡_, ap}
 use Prim.Native.Nat.{ℕ, _≤_, _-_}
 use native.Mathlib.Omega.{arith}
 use native.Mathlib.Numerals.{add-one}
-use lib.ListN.{length}
 use Rattle.cycle.specs.Size.{manifoldCount}
 use Rattle.cycle.specs.Words.{Passed, passed, manifolds}
 use Rattle.cycle.proofs.string.StringState.manifolds.Statement.{statement}
@@ -27,39 +26,6 @@ loop-holds : tie.Need-loop-holds Inv-loop μ-loop
 unfolding passed
 loop-holds c = search needs
 
-mul-manifold : tie.Need-mul-manifold Inv-loop μ-loop
-mul-manifold c = search needs
-
-array-read-manifold : tie.Need-array-read-manifold Inv-loop μ-loop
-array-read-manifold c = search needs
-
-mul-manifold-2 : tie.Need-mul-manifold-2 Inv-loop μ-loop
-mul-manifold-2 c = search needs
-
-array-read-manifold-2 : tie.Need-array-read-manifold-2 Inv-loop μ-loop
-array-read-manifold-2 c = search needs
-
-has-requires : tie.Need-has-requires Inv-loop μ-loop
-has-requires c κs = search needs
-
-has-requires-2 : tie.Need-has-requires-2 Inv-loop μ-loop
-has-requires-2 c κs = search needs
-
-manifold-requires : tie.Need-manifold-requires Inv-loop μ-loop
-manifold-requires c κs = search needs
-
-mul-saved : tie.Need-mul-saved Inv-loop μ-loop
-mul-saved c = search needs
-
-array-write-saved : tie.Need-array-write-saved Inv-loop μ-loop
-array-write-saved c = search needs
-
-add-i : tie.Need-add-i Inv-loop μ-loop
-add-i c = search needs
-
-loop-less : tie.Need-loop-less Inv-loop μ-loop
-loop-less c = search needs
-
 loop-again : tie.Need-loop-again Inv-loop μ-loop
 unfolding passed
 loop-again c = (search needs, rw (add-one, ← c .before .before .before .before .loop .inv .1) (cc))
@@ -78,20 +44,6 @@ returns c =
 pub manifolds-spec : {M : Type 1} → statement M
 manifolds-spec =
     tie.close
-    (tie.spec
-    Inv-loop
-    μ-loop
-    loop-holds
-    mul-manifold
-    array-read-manifold
-    mul-manifold-2
-    array-read-manifold-2
-    has-requires
-    has-requires-2
-    manifold-requires
-    mul-saved
-    array-write-saved
-    add-i
-    loop-less
-    loop-again
-    returns)
+    (tie.spec Inv-loop μ-loop loop-holds (λ c. search needs) (λ c. search needs) (λ c. search needs) (λ c. search needs)
+    (λ c κs. search needs) (λ c κs. search needs) (λ c κs. search needs) (λ c. search needs) (λ c. search needs) (λ c. search needs)
+    (λ c. search needs) loop-again returns)

@@ -4,15 +4,9 @@ use borrow.Author.Needs.{needs}
 use Rattle.cycle.proofs.string.StringState.off_failure.Statement.{statement}
 use Rattle.cycle.proofs.string.StringState.off_failure.Tie as tie
 
-without-requires : tie.Need-without-requires
-without-requires c κs = search needs
-
-without-requires-2 : tie.Need-without-requires-2
-without-requires-2 c κs = search needs
-
 returns : tie.Need-returns
 unfolding offFailure
 returns c = cc
 
 pub off-failure-spec : {M : Type 1} → statement M
-off-failure-spec = tie.close (tie.spec without-requires without-requires-2 returns)
+off-failure-spec = tie.close (tie.spec (λ c κs. search needs) (λ c κs. search needs) returns)

@@ -4,12 +4,9 @@ use borrow.Author.Needs.{needs}
 use Rattle.cycle.proofs.string.StringState.on_failure.Statement.{statement}
 use Rattle.cycle.proofs.string.StringState.on_failure.Tie as tie
 
-without-requires : tie.Need-without-requires
-without-requires c κs = search needs
-
 returns : tie.Need-returns
 unfolding onFailure
 returns c = cc
 
 pub on-failure-spec : {M : Type 1} → statement M
-on-failure-spec = tie.close (tie.spec without-requires returns)
+on-failure-spec = tie.close (tie.spec (λ c κs. search needs) returns)

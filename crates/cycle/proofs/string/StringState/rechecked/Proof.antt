@@ -8,12 +8,6 @@ use borrow.Author.Needs.{needs}
 use Rattle.cycle.proofs.string.StringState.rechecked.Statement.{statement}
 use Rattle.cycle.proofs.string.StringState.rechecked.Tie as tie
 
-without-requires : tie.Need-without-requires
-without-requires c κs = search needs
-
-close-bits-requires : tie.Need-close-bits-requires
-close-bits-requires c κs = search needs
-
 returns : tie.Need-returns
 unfolding rechecked
 returns c =
@@ -23,4 +17,4 @@ returns c =
     ∙ ap (closeBits manifoldCount (a .masks .words) (a .self .on .recheck)) (c .before .before .without .ensures))
 
 pub rechecked-spec : {M : Type 1} → statement M
-rechecked-spec = tie.close (tie.spec without-requires close-bits-requires returns)
+rechecked-spec = tie.close (tie.spec (λ c κs. search needs) (λ c κs. search needs) returns)

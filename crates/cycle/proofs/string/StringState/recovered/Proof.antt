@@ -1,6 +1,4 @@
 -- `cycle::string::StringState::recovered` meets its contract. Assumes nothing.
-use borrow.Author.Needs.{needs}
-use mathlib.Core.Path.{refl}
 use Rattle.cycle.specs.Words.{recovered}
 use Rattle.cycle.proofs.string.StringState.recovered.Statement.{statement}
 use Rattle.cycle.proofs.string.StringState.recovered.Tie as tie

@@ -13,12 +13,9 @@ use Rattle.feed.proofs.call.Monitor.start.Tie as tie
 abbrev outcomeOf : Stepped → Outcome
 outcomeOf x = record { answer = x .answer; used = 0; monitor = holding (x .hall) [] }
 
-start-requires : tie.Need-start-requires
-start-requires c κs = search needs
-
 returns : tie.Need-returns
 unfolding startedOver
 returns c = ap outcomeOf (c .before .start .ensures)
 
 pub start-spec : {M : Type 1} → statement M
-start-spec = tie.close (tie.spec start-requires returns)
+start-spec = tie.close (tie.spec (λ c κs. search needs) returns)

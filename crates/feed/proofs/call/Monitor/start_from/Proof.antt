@@ -19,18 +19,6 @@ use Rattle.feed.proofs.call.Monitor.start_from.Tie as tie
 abbrev noneOf : Hall → Outcome
 noneOf h = record { answer = NothingSettled; used = 0; monitor = holding h [] }
 
-masks-of-requires : tie.Need-masks-of-requires
-masks-of-requires c κs = search needs
-
-start-requires : tie.Need-start-requires
-start-requires c κs = search needs
-
-none-requires : tie.Need-none-requires
-none-requires c κs = search needs
-
-fresh-requires : tie.Need-fresh-requires
-fresh-requires c κs = search needs
-
 returns : tie.Need-returns
 unfolding startedFrom
 returns c = rw (eq-eqb _ _ (c .before .before .if1 .taken)) (c .start .ensures ∙ ap startedOver (c .before .masks-of .ensures))
@@ -45,4 +33,4 @@ returns-2 c =
 pub start-from-spec : {M : Type 1} → statement M
 start-from-spec =
     tie.close
-    (tie.spec masks-of-requires start-requires none-requires fresh-requires returns returns-2)
+    (tie.spec (λ c κs. search needs) (λ c κs. search needs) (λ c κs. search needs) (λ c κs. search needs) returns returns-2)

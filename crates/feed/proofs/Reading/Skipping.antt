@@ -1,0 +1,60 @@
+-- Where nothing is held, bytes that cannot begin a mark may be passed over. Assumes nothing.
+use Prim.Native.Nat.{ℕ, _+_, _<_, _≤_}
+use mathlib.Core.Path.{_≡_, refl, sym, ap, _∙_}
+use mathlib.Core.List.{List, [], _∷_}
+use mathlib.Core.Logic.{⊎-elim}
+use native.Mathlib.Nat.{eq-or-lt-of-le}
+use native.Mathlib.Omega.{arith}
+use borrow.Author.Tests.{ne-eqb}
+use lib.ListN.{length, getD, drop}
+use lib.Seq.{drop-cons}
+use Rattle.feed.specs.Size.{markByte}
+use Rattle.feed.specs.Format.{look}
+use Rattle.feed.specs.Reader.{settle, reads, Stop}
+use Rattle.feed.specs.Inside.Finding.{Skips}
+use Rattle.feed.specs.declared.format.Look.the-variants.{Drops}
+use Rattle.feed.proofs.Reading.Reads.{reads-same}
+use Rattle.feed.proofs.Reading.InPlace.{drops-one}
+use Rattle.feed.proofs.Reading.Finding.{Passed, passed-none, passed-more}
+use Rattle.feed.proofs.Reading.Turns.{Turn}
+
+-- a byte that cannot begin a mark
+other-drops : (piece : List ℕ) (at : ℕ) → at < length piece → (getD piece at 0 ≡ markByte → ⊥) → look (drop at piece) ≡ Drops
+other-drops piece at h e = ap look (drop-cons piece at 0 h) ∙ drops-one _ _ (ne-eqb _ _ e)
+
+-- it is passed over in the piece
+pub passed-other : (piece : List ℕ) (from at : ℕ) → Passed piece from at → at < length piece → (getD piece at 0 ≡ markByte → ⊥)
+    → Passed piece from (at + 1)
+passed-other piece from at t h e = passed-more piece from at t h (other-drops piece at h e)
+
+pub skip-none : (n : ℕ) (piece : List ℕ) (from : ℕ) → from < length piece → Skips n piece from from
+skip-none n piece from h = record { on = omega arith; within = h; stays = λ z. refl; same = refl }
+
+pub skip-on : (n : ℕ) (piece : List ℕ) (from at : ℕ) → n ≤ 0 → Skips n piece from at → at + 1 < length piece
+    → (getD piece at 0 ≡ markByte → ⊥) → Skips n piece from (at + 1)
+skip-on n piece from at z k h e =
+    let t = passed-other piece at at (passed-none piece at (omega arith)) (omega arith) e in
+    let o = k .on in
+    record { on = omega arith; within = h; stays = λ y. absurd (omega arith); same = t .same ∙ k .same }
+
+none : (l : List ℕ) → 0 ≡ length l → l ≡ []
+none [] e = refl
+none (x ∷ l) e = absurd (omega arith)
+
+-- a turn of the store's loop that has settled what it held goes on behind what is passed over
+module _ (s : Stop) (piece b : List ℕ) (n used : ℕ) (t : Turn s piece b n used) (m r : ℕ) (e : m ≡ length (settle (t .held)))
+    (k : Skips m piece used r) where
+  settles : 0 ≡ m → (p : List ℕ) → reads (t .held) p ≡ reads [] p
+  unfolding settle
+  settles z p = reads-same (t .held) [] p (none (settle (t .held)) (z ∙ e))
+
+  pub skip-same : reads (t .held) (drop r piece) ≡ s
+  skip-same =
+      ⊎-elim (λ (z : 0 ≡ m). settles z (drop r piece) ∙ k .same ∙ sym (settles z (drop used piece)) ∙ t .same)
+      (λ h. ap (λ (x : ℕ). reads (t .held) (drop x piece)) (k .stays h) ∙ t .same) (eq-or-lt-of-le (omega arith))
+
+  pub skip-within : r ≤ length piece
+  skip-within = let w = k .within in omega arith
+
+  abbrev pub turn-skip : Turn s piece b n r
+  turn-skip = record { held = t .held; long = t .long; fits = t .fits; stored = t .stored; within = skip-within; same = skip-same }

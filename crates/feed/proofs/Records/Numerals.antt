@@ -1,0 +1,119 @@
+-- The lengths and places of `Size` in the numerals that document 01 writes or that its parts add up to. Only these laws, and the files that
+-- speak in document 01's own numerals, know them. Assumes nothing.
+use mathlib.Core.Path.{_≡_, refl}
+use Prim.Native.Nat.{_-_, _*_}
+use Rattle.cycle.specs.Size.{stringCount}
+use Rattle.feed.specs.Size.{markLength, wireAt, pathAt, samplesFrom, valvesIn, sampleLength, minorSummed, minorLength}
+use Rattle.feed.specs.Size.{temperaturesFrom, temperatureCount, temperaturesLength, requestsFrom, requestsLength, quantitiesFrom}
+use Rattle.feed.specs.Size.{quantitiesLength, majorSummed, majorLength, leastLength, storeLength, mostHeld, answerAt, countAt}
+use Rattle.feed.specs.Size.{stringsFrom, stringPart, balanceAt, lesserFrom, lesserLength, oxidizerFrom, reportLength, outboxNeeded}
+use Rattle.feed.specs.Size.{masksLength, mapLength}
+
+-- ---- a record
+
+pub wire-at : wireAt ≡ 2
+wire-at = refl
+
+pub path-at : pathAt ≡ 4
+path-at = refl
+
+pub samples-from : samplesFrom ≡ 5
+samples-from = refl
+
+pub valves-in : valvesIn ≡ 12
+valves-in = refl
+
+pub sample-length : sampleLength ≡ 13
+sample-length = refl
+
+pub minor-summed : minorSummed ≡ 57
+minor-summed = refl
+
+-- "the same 55 bytes after the mark"
+pub same-bytes : minorSummed - markLength ≡ 55
+same-bytes = refl
+
+pub minor-length : minorLength ≡ 59
+minor-length = refl
+
+pub temperatures-from : temperaturesFrom ≡ 57
+temperatures-from = refl
+
+pub temperature-count : temperatureCount ≡ 64
+temperature-count = refl
+
+pub temperatures-length : temperaturesLength ≡ 128
+temperatures-length = refl
+
+-- "512 bytes of injector temperatures"
+pub temperatures-whole : stringCount * temperaturesLength ≡ 512
+temperatures-whole = refl
+
+pub requests-from : requestsFrom ≡ 569
+requests-from = refl
+
+pub requests-length : requestsLength ≡ 8
+requests-length = refl
+
+pub quantities-from : quantitiesFrom ≡ 601
+quantities-from = refl
+
+pub quantities-length : quantitiesLength ≡ 4
+quantities-length = refl
+
+pub major-summed : majorSummed ≡ 613
+major-summed = refl
+
+pub major-length : majorLength ≡ 615
+major-length = refl
+
+-- ---- the reader
+
+pub least-length : leastLength ≡ 59
+least-length = refl
+
+pub store-length : storeLength ≡ 615
+store-length = refl
+
+pub most-held : mostHeld ≡ 614
+most-held = refl
+
+-- ---- a report
+
+pub answer-at : answerAt ≡ 2
+answer-at = refl
+
+pub count-at : countAt ≡ 3
+count-at = refl
+
+pub strings-from : stringsFrom ≡ 7
+strings-from = refl
+
+pub string-part : stringPart ≡ 5
+string-part = refl
+
+pub balance-at : balanceAt ≡ 27
+balance-at = refl
+
+pub lesser-from : lesserFrom ≡ 28
+lesser-from = refl
+
+pub lesser-length : lesserLength ≡ 2
+lesser-length = refl
+
+pub oxidizer-from : oxidizerFrom ≡ 4
+oxidizer-from = refl
+
+pub report-length : reportLength ≡ 34
+report-length = refl
+
+pub outbox-needed : outboxNeeded ≡ 34
+outbox-needed = refl
+
+-- ---- the map
+
+pub masks-length : masksLength ≡ 16
+masks-length = refl
+
+pub map-length : mapLength ≡ 64
+map-length = refl

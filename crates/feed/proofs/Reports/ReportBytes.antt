@@ -1,0 +1,69 @@
+-- Every byte of a report is a byte: below 256. Assumes nothing.
+use mathlib.Core.List.{List, [], _∷_, _++_}
+use Prim.Native.Nat.{ℕ, zero, suc, _%_, _<_}
+use native.Mathlib.Omega.{arith}
+use lib.ListN.{getD}
+use Rattle.cycle.specs.Size.{stringCount, moduleCount}
+use Rattle.cycle.specs.Answers.{numberOf}
+use Rattle.cycle.specs.Banks.{noBank}
+use Rattle.cycle.specs.Hall.{stringOf}
+use Rattle.cycle.specs.declared.answer.Answer.{Answer}
+use Rattle.cycle.specs.declared.banks.Bank.{Bank}
+use Rattle.cycle.specs.declared.hall.Hall.{Hall}
+use Rattle.cycle.proofs.Answers.{number-byte}
+use Rattle.feed.specs.Bytes.{inTwo, inFour, parts}
+use Rattle.feed.specs.Report.{headOf, stringBytes, reportedFail, stringShown, stringsBytes, lesserShown, lesserBytes, banksBytes}
+use Rattle.feed.specs.Report.{reportOf}
+
+abbrev Bytes : List ℕ → Type 0
+Bytes [] = Unit {0}
+Bytes (b ∷ l) = (b < 256) × Bytes l
+
+both : (l q : List ℕ) → Bytes l → Bytes q → Bytes (l ++ q)
+both [] q x y = y
+both (b ∷ l) q x y = (x .0, both l q (x .1) y)
+
+at : (l : List ℕ) → Bytes l → (k : ℕ) → getD l k 0 < 256
+at [] x k = omega arith
+at (b ∷ l) x zero = x .0
+at (b ∷ l) x (suc k) = at l (x .1) k
+
+two-bytes : (w : ℕ) → Bytes (inTwo w)
+two-bytes w = (omega arith, (omega arith, tt))
+
+four-bytes : (w : ℕ) → Bytes (inFour w)
+four-bytes w = (omega arith, (omega arith, (omega arith, (omega arith, tt))))
+
+parts-bytes : (f : ℕ → List ℕ) → ((s : ℕ) → Bytes (f s)) → (n : ℕ) → Bytes (parts n f)
+unfolding parts
+parts-bytes f each zero = tt
+parts-bytes f each (suc n) = both (parts n f) (f n) (parts-bytes f each n) (each n)
+
+string-bytes : (h : Hall) (s : ℕ) → Bytes (stringShown h s)
+unfolding stringBytes
+string-bytes h s = both (inFour (reportedFail h s)) ((stringOf h s) .close % 256 ∷ []) (four-bytes (reportedFail h s)) (omega arith, tt)
+
+strings-bytes : (h : Hall) → Bytes (stringsBytes h)
+unfolding stringsBytes
+strings-bytes h = parts-bytes (stringShown h) (string-bytes h) stringCount
+
+lesser-bytes : (banks : List Bank) → Bytes (lesserBytes banks)
+unfolding lesserBytes
+lesser-bytes banks = parts-bytes (lesserShown banks) (λ m. two-bytes ((getD banks m noBank) .lesser)) moduleCount
+
+banks-bytes : (banks : List Bank) → Bytes (banksBytes banks)
+unfolding banksBytes
+banks-bytes banks = (omega arith, lesser-bytes banks)
+
+head-bytes : (a : Answer) (n : ℕ) → Bytes (headOf (numberOf a) n)
+unfolding headOf
+head-bytes a n = (omega arith, (omega arith, (number-byte a, four-bytes n)))
+
+report-all : (a : Answer) (h : Hall) → Bytes (reportOf a h)
+unfolding reportOf
+report-all a h =
+    both (headOf (numberOf a) (h .n)) (stringsBytes h ++ banksBytes (h .banks)) (head-bytes a (h .n))
+    (both (stringsBytes h) (banksBytes (h .banks)) (strings-bytes h) (banks-bytes (h .banks)))
+
+pub report-bytes : (a : Answer) (h : Hall) (k : ℕ) → getD (reportOf a h) k 0 < 256
+report-bytes a h k = at (reportOf a h) (report-all a h) k

@@ -1,0 +1,82 @@
+-- What stands where in a report: the answer, n, each string's fail word and close byte, the balance byte and each module's lesser
+-- quantity. Assumes nothing.
+use mathlib.Core.Path.{_≡_, refl, sym, ap, _∙_}
+use mathlib.Core.List.{List, _++_, append-assoc}
+use Prim.Native.Nat.{ℕ, suc, _+_, _*_, _%_, _^_, _<_}
+use native.Mathlib.Nat.{add-assoc}
+use native.Mathlib.Omega.{arith}
+use lib.ListN.{getD, List·getD-append}
+use Rattle.cycle.specs.Size.{stringCount, moduleCount}
+use Rattle.cycle.specs.Answers.{numberOf}
+use Rattle.cycle.specs.Banks.{noBank}
+use Rattle.cycle.specs.Hall.{stringOf}
+use Rattle.cycle.specs.declared.answer.Answer.{Answer}
+use Rattle.cycle.specs.declared.hall.Hall.{Hall}
+use Rattle.feed.specs.Size.{wordLength, answerAt, countAt, stringsFrom, stringPart, balanceAt, lesserFrom, lesserLength}
+use Rattle.feed.specs.Bytes.{two, four, inTwo}
+use Rattle.feed.specs.Report.{headOf, stringBytes, reportedFail, stringShown, stringsBytes, lesserShown, balanceOf, lesserBytes}
+use Rattle.feed.specs.Report.{banksBytes, reportOf}
+use Rattle.feed.proofs.Records.NumbersInBytes.{two-inTwo, four-inFour, two-stands, four-stands}
+use Rattle.feed.proofs.Reports.Parts.{getD-past, parts-at}
+use Rattle.feed.proofs.Reports.ReportLengths.{head-length, string-length, strings-length, front-length}
+
+pub answer-at : (a : Answer) (h : Hall) → getD (reportOf a h) answerAt 0 ≡ numberOf a
+unfolding reportOf headOf
+answer-at a h = refl
+
+pub n-at : (a : Answer) (h : Hall) → h .n < 2 ^ 32 → four (reportOf a h) countAt ≡ h .n
+unfolding reportOf headOf
+n-at a h l = four-inFour (h .n) l
+
+-- ---- the strings
+
+-- byte i of string s's part
+pub string-at : (a : Answer) (h : Hall) (s i : ℕ) → s < stringCount → i < stringPart
+    → getD (reportOf a h) (stringsFrom + stringPart * s + i) 0
+    ≡ getD (stringShown h s) i 0
+unfolding reportOf stringsBytes
+string-at a h s i l j =
+    ap (λ (n : ℕ). getD (reportOf a h) n 0) (add-assoc stringsFrom (stringPart * s) i)
+    ∙ getD-past (headOf (numberOf a) (h .n)) (stringsBytes h ++ banksBytes (h .banks)) stringsFrom (stringPart * s + i)
+    (head-length (numberOf a) (h .n))
+    ∙ List·getD-append (stringsBytes h) (banksBytes (h .banks)) 0 (stringPart * s + i)
+    (omega (arith, strings-length h))
+    ∙ parts-at stringPart (stringShown h) (string-length h) stringCount s i l j
+
+pub fail-at : (a : Answer) (h : Hall) (s : ℕ) → s < stringCount → reportedFail h s < 2 ^ 32
+    → four (reportOf a h) (stringsFrom + stringPart * s) ≡ reportedFail h s
+unfolding stringBytes
+fail-at a h s l b =
+    four-stands (reportOf a h) (stringShown h s) (stringsFrom + stringPart * s)
+    (λ i j. string-at a h s i l (omega arith))
+    ∙ four-inFour (reportedFail h s) b
+
+pub close-at : (a : Answer) (h : Hall) (s : ℕ) → s < stringCount
+    → getD (reportOf a h) (stringsFrom + stringPart * s + wordLength) 0 ≡ (stringOf h s) .close % 256
+unfolding stringBytes
+close-at a h s l = string-at a h s wordLength l (omega arith)
+
+-- ---- the banks
+
+bank-in : (a : Answer) (h : Hall) (i : ℕ) → getD (reportOf a h) (balanceAt + i) 0 ≡ getD (banksBytes (h .banks)) i 0
+unfolding reportOf
+bank-in a h i =
+    ap (λ (t : List ℕ). getD t (balanceAt + i) 0)
+    (sym (append-assoc (headOf (numberOf a) (h .n)) (stringsBytes h) (banksBytes (h .banks))))
+    ∙ getD-past (headOf (numberOf a) (h .n) ++ stringsBytes h) (banksBytes (h .banks)) balanceAt i
+    (front-length (numberOf a) (h .n) h)
+
+pub balance-at : (a : Answer) (h : Hall) → getD (reportOf a h) balanceAt 0 ≡ balanceOf moduleCount (h .banks) % 256
+unfolding banksBytes
+balance-at a h = bank-in a h 0
+
+pub lesser-at : (a : Answer) (h : Hall) (m : ℕ) → m < moduleCount → (getD (h .banks) m noBank) .lesser < 65536
+    → two (reportOf a h) (lesserFrom + lesserLength * m) ≡ (getD (h .banks) m noBank) .lesser
+unfolding banksBytes lesserBytes
+lesser-at a h m l b =
+    two-stands (reportOf a h) (inTwo ((getD (h .banks) m noBank) .lesser)) (lesserFrom + lesserLength * m)
+    (λ i j.
+    let e : lesserFrom + lesserLength * m + i ≡ balanceAt + suc (lesserLength * m + i) = omega arith in
+    ap (λ (n : ℕ). getD (reportOf a h) n 0) e ∙ bank-in a h (suc (lesserLength * m + i))
+    ∙ parts-at lesserLength (lesserShown (h .banks)) (λ k. refl) moduleCount m i l j)
+    ∙ two-inTwo ((getD (h .banks) m noBank) .lesser) b

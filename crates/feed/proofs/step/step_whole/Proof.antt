@@ -1,0 +1,80 @@
+-- `feed::step::step_whole` meets its contract. Assumes nothing.
+use mathlib.Core.Path.{_≡_, sym, ap, ap₂, _∙_}
+use native.Mathlib.Omega.{arith}
+use borrow.Author.Needs.{needs}
+use borrow.Author.Tests.{eqb-true}
+use lib.Dec.{eqb}
+use lib.ListN.{getD}
+use Rattle.cycle.specs.Numbers.{judged}
+use Rattle.cycle.specs.Hall.{minorTaken, majorTaken}
+use Rattle.cycle.specs.declared.answer.Answer.the-variants.{Taken}
+use Rattle.cycle.specs.declared.number.Verdict.{Verdict}
+use Rattle.cycle.specs.declared.values.Minor.{Minor}
+use Rattle.feed.specs.Size.{majorMark, wireAt}
+use Rattle.feed.specs.Bytes.{two}
+use Rattle.feed.proofs.Calls.Steps.{whole-minor, whole-major, steppedTo, half-refused, half-minor, half-major}
+use Rattle.feed.proofs.step.step_whole.Statement.{statement}
+use Rattle.feed.proofs.step.step_whole.Tie as tie
+
+shared-slice-read-major : tie.Need-shared-slice-read-major
+shared-slice-read-major c = omega (arith, whole-minor _ (c .before .before .pre))
+
+two-at-requires : tie.Need-two-at-requires
+two-at-requires c κs = omega (arith, whole-minor _ (c .before .before .pre))
+
+minor-of-requires : tie.Need-minor-of-requires
+minor-of-requires c κs = whole-minor _ (c .before .before .before .before .before .before .before .pre)
+
+-- from the verdict back to the entry, and the verdict by the record's bytes
+abbrev start : tie.After-judged → tie.Start
+start c = c .before .before .before .before
+
+verdict : (c : tie.After-judged) (v : Verdict) → c .judged .result ≡ v
+    → judged (start c .args .hall .n) (two (start c .args .s .now) wireAt) (eqb (getD (start c .args .s .now) 1 0) majorMark) ≡ v
+verdict c v e =
+    ap (λ w. judged (start c .args .hall .n) w (eqb (getD (start c .args .s .now) 1 0) majorMark)) (sym (c .before .two-at .ensures))
+    ∙ sym (c .judged .ensures)
+    ∙ e
+
+major-of-requires : tie.Need-major-of-requires
+major-of-requires c κs =
+    let at-minor-of = c .before .before in
+    let entry = start (at-minor-of .before .before .before .before) in
+    (whole-major _ (entry .pre) (eqb-true _ majorMark (c .if1 .taken)), at-minor-of .minor-of .ensures)
+
+returns : tie.Need-returns
+returns c =
+    let at-if1 = c .before .before in
+    let at-minor-taken = at-if1 .before in
+    let at-minor-of = at-minor-taken .before in
+    let at-v = at-minor-of .before .before in
+    let at-judged = at-v .before .before in
+    let a = start at-judged .args in
+    let next = at-v .v .given .0 .0 in
+    ap (steppedTo Taken) (c .major-taken .ensures ∙ ap₂ majorTaken (c .before .major-of .ensures)
+    (at-minor-taken .minor-taken .ensures ∙ ap (λ (x : Minor). minorTaken x next (a .hall)) (at-minor-of .minor-of .ensures)))
+    ∙ half-major (a .s .now) (a .hall) (start at-judged .pre) next (at-if1 .if1 .taken) (verdict at-judged _ (at-v .v .given .1))
+
+returns-2 : tie.Need-returns-2
+returns-2 c =
+    let at-minor-of = c .before .before in
+    let at-v = at-minor-of .before .before in
+    let at-judged = at-v .before .before in
+    let a = start at-judged .args in
+    let next = at-v .v .given .0 .0 in
+    ap (steppedTo Taken)
+    (c .before .minor-taken .ensures ∙ ap (λ (x : Minor). minorTaken x next (a .hall)) (at-minor-of .minor-of .ensures))
+    ∙ half-minor (a .s .now) (a .hall) (start at-judged .pre) next (c .if1 .left) (verdict at-judged _ (at-v .v .given .1))
+
+returns-3 : tie.Need-returns-3
+returns-3 c =
+    let at-v = c .before in
+    let at-judged = at-v .before .before in
+    let a = start at-judged .args in
+    half-refused (a .s .now) (a .hall) (start at-judged .pre) (at-v .v2 .given .0 .0) (verdict at-judged _ (at-v .v2 .given .1))
+
+pub step-whole-spec : {M : Type 1} → statement M
+step-whole-spec =
+    tie.close
+    (tie.spec shared-slice-read-major two-at-requires (λ c κs. search needs) (λ c. search needs) minor-of-requires (λ c κs. search needs)
+    major-of-requires (λ c κs. search needs) (λ c. search needs) returns returns-2 returns-3)
