@@ -3,6 +3,7 @@ pub mod UniqueBits
 pub mod UniqueCycle
 pub mod UniqueFeedReader
 pub mod UniqueFeedCall
+pub mod Contracts
 pub mod Nights
 pub mod InstanceReads
 pub mod InstanceSteps

@@ -1,0 +1,142 @@
+-- From the theorems to the code that runs: the contracts of the public functions, which the gate proves of their code, are about the very
+-- definitions that the front door speaks of, and ask nothing of a caller. Assumes nothing.
+use mathlib.Core.Path.{_≡_}
+use lib.ListN.{length}
+use denote.Ref.{now}
+use Rattle.cycle.specs.Hall.{stepped}
+use Rattle.cycle.specs.Records.{minor, major}
+use Rattle.feed.specs.Step.{stepOf}
+use Rattle.feed.specs.Call.{startedOver, call, runs, Ran-by}
+use Rattle.feed.specs.Masks.{startedFrom}
+use Rattle.promises.specs.Outcomes.{Says, AsksNothing}
+use Rattle.bits.proofs.without as without
+use Rattle.bits.proofs.has as has
+use Rattle.bits.proofs.«with_bit» as with-bit
+use Rattle.bits.proofs.meets as meets
+use Rattle.cycle.proofs.answer.Answer.number as answer-number
+use Rattle.cycle.proofs.map.Masks.none as masks-none
+use Rattle.cycle.proofs.map.Masks.mapped as masks-mapped
+use Rattle.cycle.proofs.number.judged as judged
+use Rattle.cycle.proofs.hall.Hall.fresh as hall-fresh
+use Rattle.cycle.proofs.hall.Hall.«minor_taken» as hall-minor-taken
+use Rattle.cycle.proofs.hall.Hall.«major_taken» as hall-major-taken
+use Rattle.cycle.proofs.hall.Hall.minor as hall-minor
+use Rattle.cycle.proofs.hall.Hall.major as hall-major
+use Rattle.cycle.proofs.hall.start as start
+use Rattle.feed.proofs.bytes.«read_two» as read-two
+use Rattle.feed.proofs.bytes.«read_four» as read-four
+use Rattle.feed.proofs.bytes.«put_two» as put-two
+use Rattle.feed.proofs.bytes.«put_four» as put-four
+use Rattle.feed.proofs.format.sum as sum
+use Rattle.feed.proofs.reader.«find_front» as find-front
+use Rattle.feed.proofs.report.«put_report» as put-report
+use Rattle.feed.proofs.step.step as step
+use Rattle.feed.proofs.call.Monitor.start as monitor-start
+use Rattle.feed.proofs.call.Monitor.«start_from» as monitor-start-from
+use Rattle.feed.proofs.call.Monitor.call as monitor-call
+use Rattle.feed.proofs.call.Monitor.run as monitor-run
+
+-- ---- whatever the contract allows is the outcome, and the outbox, of the definition
+
+pub start-is : Says monitor-start.ended monitor-start.Reads.Post (λ κs a x w. x ≡ startedOver (a .0))
+start-is κs a x w p = p
+
+pub start-from-is : Says monitor-start-from.ended monitor-start-from.Reads.Post (λ κs a x w. x ≡ startedFrom (now (a .0)))
+start-from-is κs a x w p = p
+
+pub call-is : Says monitor-call.ended monitor-call.Reads.Post
+    (λ κs a x w. record { outcome = x; outbox = w .1 .1 .0 } ≡ call (a .0) (now (a .1 .0)) (now (a .1 .1 .0)))
+call-is κs a x w p = λ i. record { outcome = p .0 i; outbox = p .1 i }
+
+pub run-is : Says monitor-run.ended monitor-run.Reads.Post
+    (λ κs a x w. Ran-by (runs (length (now (a .1 .1 .0))) (a .0) (now (a .1 .0))) (now (a .1 .1 .0)) x (w .1 .1 .0))
+run-is κs a x w p = p
+
+pub minor-is : Says hall-minor.ended hall-minor.Reads.Post (λ κs a x w. x ≡ stepped (minor (a .1 .0)) (a .0))
+minor-is κs a x w p = p
+
+pub major-is : Says hall-major.ended hall-major.Reads.Post (λ κs a x w. x ≡ stepped (major (a .1 .0)) (a .0))
+major-is κs a x w p = p
+
+pub step-is : Says step.ended step.Reads.Post (λ κs a x w. x ≡ stepOf (now (a .1 .0)) (a .0))
+step-is κs a x w p = p
+
+-- ---- no public function asks anything
+
+pub without-asks : AsksNothing without.ended without.Reads.Pre
+without-asks κs a = tt
+
+pub has-asks : AsksNothing has.ended has.Reads.Pre
+has-asks κs a = tt
+
+pub with-bit-asks : AsksNothing with-bit.ended with-bit.Reads.Pre
+with-bit-asks κs a = tt
+
+pub meets-asks : AsksNothing meets.ended meets.Reads.Pre
+meets-asks κs a = tt
+
+pub answer-number-asks : AsksNothing answer-number.ended answer-number.Reads.Pre
+answer-number-asks κs a = tt
+
+pub masks-none-asks : AsksNothing masks-none.ended masks-none.Reads.Pre
+masks-none-asks κs a = tt
+
+pub masks-mapped-asks : AsksNothing masks-mapped.ended masks-mapped.Reads.Pre
+masks-mapped-asks κs a = tt
+
+pub judged-asks : AsksNothing judged.ended judged.Reads.Pre
+judged-asks κs a = tt
+
+pub hall-fresh-asks : AsksNothing hall-fresh.ended hall-fresh.Reads.Pre
+hall-fresh-asks κs a = tt
+
+pub hall-minor-taken-asks : AsksNothing hall-minor-taken.ended hall-minor-taken.Reads.Pre
+hall-minor-taken-asks κs a = tt
+
+pub hall-major-taken-asks : AsksNothing hall-major-taken.ended hall-major-taken.Reads.Pre
+hall-major-taken-asks κs a = tt
+
+pub hall-minor-asks : AsksNothing hall-minor.ended hall-minor.Reads.Pre
+hall-minor-asks κs a = tt
+
+pub hall-major-asks : AsksNothing hall-major.ended hall-major.Reads.Pre
+hall-major-asks κs a = tt
+
+pub start-asks : AsksNothing start.ended start.Reads.Pre
+start-asks κs a = tt
+
+pub read-two-asks : AsksNothing read-two.ended read-two.Reads.Pre
+read-two-asks κs a = tt
+
+pub read-four-asks : AsksNothing read-four.ended read-four.Reads.Pre
+read-four-asks κs a = tt
+
+pub put-two-asks : AsksNothing put-two.ended put-two.Reads.Pre
+put-two-asks κs a = tt
+
+pub put-four-asks : AsksNothing put-four.ended put-four.Reads.Pre
+put-four-asks κs a = tt
+
+pub sum-asks : AsksNothing sum.ended sum.Reads.Pre
+sum-asks κs a = tt
+
+pub find-front-asks : AsksNothing find-front.ended find-front.Reads.Pre
+find-front-asks κs a = tt
+
+pub put-report-asks : AsksNothing put-report.ended put-report.Reads.Pre
+put-report-asks κs a = tt
+
+pub step-asks : AsksNothing step.ended step.Reads.Pre
+step-asks κs a = tt
+
+pub monitor-start-asks : AsksNothing monitor-start.ended monitor-start.Reads.Pre
+monitor-start-asks κs a = tt
+
+pub monitor-start-from-asks : AsksNothing monitor-start-from.ended monitor-start-from.Reads.Pre
+monitor-start-from-asks κs a = tt
+
+pub monitor-call-asks : AsksNothing monitor-call.ended monitor-call.Reads.Pre
+monitor-call-asks κs a = tt
+
+pub monitor-run-asks : AsksNothing monitor-run.ended monitor-run.Reads.Pre
+monitor-run-asks κs a = tt
