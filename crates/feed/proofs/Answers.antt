@@ -3,3 +3,4 @@ pub mod StepAnswers
 pub mod Fixed
 pub mod Answered
 pub mod Left
+pub mod OnlyCall
