@@ -10,3 +10,5 @@ pub mod Batches
 pub mod Starting
 pub mod RunLaws
 pub mod Running
+pub mod NoLongWait
+pub mod NextRecord

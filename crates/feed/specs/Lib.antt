@@ -11,6 +11,7 @@ pub mod Call
 pub mod Answered
 pub mod Heard
 pub mod Calls
+pub mod SettledAt
 pub mod Tells
 pub mod CloseShown
 pub mod Batch
