@@ -22,3 +22,4 @@ pub mod CloseSlots
 pub mod Close
 pub mod Runs
 pub mod RunClose
+pub mod Overrides
