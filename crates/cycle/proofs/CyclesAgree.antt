@@ -15,8 +15,8 @@ use Rattle.cycle.specs.Map.{inMask, mapped}
 use Rattle.cycle.specs.Numbers.{missedCycle, missedMajor}
 use Rattle.cycle.specs.Jets as jets
 use Rattle.cycle.specs.Words as words
-use Rattle.cycle.specs.Inside.Views.{jetOf, jetSays}
-use Rattle.cycle.specs.Inside.Proper.{Disjoint, ProperString}
+use Rattle.cycle.specs.Views.{jetOf, jetSays}
+use Rattle.cycle.specs.Proper.{Disjoint, ProperString}
 use Rattle.cycle.specs.declared.jet.JetState.{JetState}
 use Rattle.cycle.specs.declared.string.StringState.{StringState}
 use Rattle.cycle.specs.declared.values.Sample.{Sample}

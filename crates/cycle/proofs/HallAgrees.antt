@@ -15,8 +15,8 @@ use Rattle.cycle.specs.Records.{Record, minor, major, majorKind}
 use Rattle.cycle.specs.Map.{masksOf, inMask}
 use Rattle.cycle.specs.Hall.{sampleOf, noTemperatures, noRequests, minorStrings, taken}
 use Rattle.cycle.specs.Hall.{stringOf}
-use Rattle.cycle.specs.Inside.Views.{jetOf, jetRecord}
-use Rattle.cycle.specs.Inside.Proper.{ProperHall}
+use Rattle.cycle.specs.Views.{jetOf, jetRecord}
+use Rattle.cycle.specs.Proper.{ProperHall}
 use Rattle.cycle.specs.Inside.Runs.{bankBy}
 use Rattle.cycle.specs.declared.number.Next.{Next}
 use Rattle.cycle.specs.declared.string.StringState.{StringState}

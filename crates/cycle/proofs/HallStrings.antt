@@ -18,7 +18,7 @@ use Rattle.cycle.specs.Records.{Record, minor, major, majorKind, common}
 use Rattle.cycle.specs.Hall.{pastString, sampleOf, noTemperatures, noRequests, freshHall, minorStrings, majorStrings}
 use Rattle.cycle.specs.Hall.{taken, steppedBy, stepped}
 use Rattle.cycle.specs.Hall.{stringOf}
-use Rattle.cycle.specs.Inside.Proper.{ProperStanding, ProperHall}
+use Rattle.cycle.specs.Proper.{ProperStanding, ProperHall}
 use Rattle.cycle.specs.declared.banks.Bank.{Bank}
 use Rattle.cycle.specs.declared.map.Masks.{Masks}
 use Rattle.cycle.specs.declared.number.Next.{Next}

@@ -23,3 +23,4 @@ pub mod Close
 pub mod Runs
 pub mod RunClose
 pub mod Overrides
+pub mod Turns

@@ -15,9 +15,9 @@ use Rattle.bits.proofs.Bits.{bit-or, bit-without}
 use Rattle.cycle.specs.Jets as jets
 use Rattle.cycle.specs.Words as words
 use Rattle.cycle.specs.Words.{Passed, passed, manifold, handled, atManifold}
-use Rattle.cycle.specs.Inside.Views.{jetOf}
+use Rattle.cycle.specs.Views.{jetOf}
 use Rattle.cycle.specs.Map.{inMask}
-use Rattle.cycle.specs.Inside.Proper.{Disjoint, ProperString}
+use Rattle.cycle.specs.Proper.{Disjoint, ProperString}
 use Rattle.cycle.specs.declared.string.StringState.{StringState}
 use Rattle.cycle.proofs.SetsKept.{ProperSets, passed-proper}
 

@@ -14,7 +14,7 @@ use Rattle.bits.proofs.Bits.{bit-or, bit-none, bit-past}
 use Rattle.bits.proofs.Words.{meets-is, any-at, any-found}
 use Rattle.cycle.specs.Size.{stringCount, manifoldCount}
 use Rattle.cycle.specs.Map.{masksOf, inMask, FitMap, TwoMasks, mapped, overlap, refused}
-use Rattle.cycle.specs.Inside.Proper.{Disjoint}
+use Rattle.cycle.specs.Proper.{Disjoint}
 use Rattle.cycle.specs.declared.map.Masks.{Masks}
 
 module _ (masks : List ℕ) (j : ℕ) where

@@ -9,7 +9,7 @@ use lib.Bits.{bitAnd}
 use lib.ListN.{getD, length}
 use Rattle.bits.specs.Bit.{bit}
 use Rattle.cycle.specs.Map.{mapped}
-use Rattle.cycle.specs.Inside.Proper.{ProperStanding, ProperString}
+use Rattle.cycle.specs.Proper.{ProperStanding, ProperString}
 use Rattle.cycle.specs.Words.{Passed, withStanding, withOff, withOn, withLost, noOff, noOn, offCleared}
 use Rattle.cycle.specs.Words.{leakWord}
 use Rattle.cycle.specs.Words.{recovered, pathLost, gapped, offFailure, manifolds, requested, rechecked, onFailure, kept}

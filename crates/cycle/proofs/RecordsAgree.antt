@@ -12,7 +12,7 @@ use Rattle.cycle.specs.Size.{jetCount}
 use Rattle.cycle.specs.Map.{inMask, mapped}
 use Rattle.cycle.specs.Jets as jets
 use Rattle.cycle.specs.Words as words
-use Rattle.cycle.specs.Inside.Views.{jetOf, jetSays}
+use Rattle.cycle.specs.Views.{jetOf, jetSays}
 use Rattle.cycle.specs.declared.string.StringState.{StringState}
 use Rattle.cycle.specs.declared.values.Sample.{Sample}
 use Rattle.cycle.specs.declared.values.Temperatures.{Temperatures}

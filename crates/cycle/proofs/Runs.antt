@@ -19,8 +19,8 @@ use Rattle.cycle.specs.Banks.{noBank}
 use Rattle.cycle.specs.Records.{Record, minor, major, majorKind, common}
 use Rattle.cycle.specs.Hall.{freshHall, taken, steppedBy, stepped}
 use Rattle.cycle.specs.Hall.{stringOf}
-use Rattle.cycle.specs.Inside.Views.{jetOf, jetRecord}
-use Rattle.cycle.specs.Inside.Proper.{ProperHall}
+use Rattle.cycle.specs.Views.{jetOf, jetRecord}
+use Rattle.cycle.specs.Proper.{ProperHall}
 use Rattle.cycle.specs.Close.{Rising}
 use Rattle.cycle.specs.Inside.Runs.{hallAfter, takes, TakenRecord, takenOf, jetHistory, bankBy, reachedBy, Told}
 use Rattle.cycle.specs.declared.jet.JetState.{JetState}

@@ -9,7 +9,7 @@ use Rattle.bits.proofs.Yes.{or-false, and-true, and-false}
 use Rattle.bits.proofs.Bits.{bit-and, bit-or, bit-without, bit-none}
 use Rattle.cycle.specs.Jets as jets
 use Rattle.cycle.specs.Words as words
-use Rattle.cycle.specs.Inside.Views.{jetOf}
+use Rattle.cycle.specs.Views.{jetOf}
 use Rattle.cycle.specs.declared.jet.JetState.{JetState}
 use Rattle.cycle.specs.declared.string.StringState.{StringState}
 

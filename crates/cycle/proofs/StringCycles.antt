@@ -12,9 +12,9 @@ use Rattle.cycle.specs.Size.{jetCount}
 use Rattle.cycle.specs.Numbers.{isMajor, missedCycle, missedMajor}
 use Rattle.cycle.specs.Jets as jets
 use Rattle.cycle.specs.Words as words
-use Rattle.cycle.specs.Inside.Views.{jetOf, jetSays}
+use Rattle.cycle.specs.Views.{jetOf, jetSays}
 use Rattle.cycle.specs.Map.{inMask}
-use Rattle.cycle.specs.Inside.Proper.{Disjoint, ProperString}
+use Rattle.cycle.specs.Proper.{Disjoint, ProperString}
 use Rattle.cycle.specs.declared.string.StringState.{StringState}
 use Rattle.cycle.specs.declared.values.Sample.{Sample}
 use Rattle.cycle.specs.declared.values.Temperatures.{Temperatures}

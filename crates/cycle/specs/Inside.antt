@@ -3,9 +3,5 @@
 
 -- the quick way through steps 1 to 4; proofs/Quiet shows that it is what the rules say
 pub mod Quiet
--- what holds of every state that runs reach, for the laws; proofs/HallStrings shows that it does
-pub mod Proper
--- what one jet sees of the packed words and of the values of a record
-pub mod Views
 -- runs of the hall over values; what demands 2 and 3 say of reports is said of bytes
 pub mod Runs

@@ -10,4 +10,8 @@ pub mod Banks
 pub mod Records
 pub mod Hall
 pub mod Close
+pub mod Views
+pub mod Proper
+pub mod Turns
+pub mod Unmapped
 pub mod Inside

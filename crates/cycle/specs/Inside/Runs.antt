@@ -13,7 +13,7 @@ use Rattle.cycle.specs.Records.{Record, minor, major}
 use Rattle.cycle.specs.Map.{masksOf, inMask}
 use Rattle.cycle.specs.Hall.{freshHall, stepped}
 use Rattle.cycle.specs.Hall.{stringOf}
-use Rattle.cycle.specs.Inside.Views.{jetOf, jetRecord}
+use Rattle.cycle.specs.Views.{jetOf, jetRecord}
 use Rattle.cycle.specs.declared.banks.Bank.{Bank}
 use Rattle.cycle.specs.declared.map.Masks.{Masks}
 use Rattle.cycle.specs.declared.hall.Hall.{Hall}

@@ -14,7 +14,7 @@ use Rattle.cycle.specs.Banks.{noBank, noQuantities}
 use Rattle.cycle.specs.Numbers.{judged}
 use Rattle.cycle.specs.Records.{Record, minor, major, majorKind, common}
 use Rattle.cycle.specs.Hall.{freshHall, started, steppedBy, stepped}
-use Rattle.cycle.specs.Inside.Proper.{ProperHall}
+use Rattle.cycle.specs.Proper.{ProperHall}
 use Rattle.cycle.specs.Inside.Runs.{TakenRecord, bankBy}
 use Rattle.cycle.specs.declared.banks.Bank.{Bank}
 use Rattle.cycle.specs.declared.hall.Hall.{Hall}

@@ -12,7 +12,7 @@ use Rattle.cycle.specs.Jets.{JetRecord}
 use Rattle.cycle.specs.Banks.{noQuantities}
 use Rattle.cycle.specs.Hall.{noSample, noTemperatures, noRequests}
 use Rattle.cycle.specs.Records.{minor, major}
-use Rattle.cycle.specs.Inside.Views.{jetSays, jetRecord}
+use Rattle.cycle.specs.Views.{jetSays, jetRecord}
 use Rattle.cycle.specs.declared.values.Sample.{Sample}
 use Rattle.feed.specs.Size.{wordLength, temperatureLength, pathAt, samplesFrom, valvesIn, sampleLength, temperaturesFrom}
 use Rattle.feed.specs.Size.{temperatureCount, temperaturesLength, requestsFrom, requestsLength, quantitiesFrom, quantitiesLength}

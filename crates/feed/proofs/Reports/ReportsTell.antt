@@ -20,7 +20,7 @@ use Rattle.cycle.specs.Jets.{JetRecord, run, hasAsked}
 use Rattle.cycle.specs.Map.{masksOf, inMask, FitMap, mapped, refused}
 use Rattle.cycle.specs.Banks.{noBank}
 use Rattle.cycle.specs.Hall.{stringOf}
-use Rattle.cycle.specs.Inside.Views.{jetOf}
+use Rattle.cycle.specs.Views.{jetOf}
 use Rattle.cycle.specs.Inside.Runs as runs
 use Rattle.cycle.specs.declared.answer.Answer.{Answer}
 use Rattle.cycle.specs.declared.banks.Bank.{Bank}

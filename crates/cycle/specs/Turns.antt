@@ -1,0 +1,51 @@
+-- Step 4 for any string at all, "stepped by these rules as it stands": masks may overlap, and a saved set may go beyond its mask. Bit by bit,
+-- manifold by manifold, "lowest first". Assumes nothing.
+use mathlib.Core.Path.{_≡_}
+use mathlib.Core.Bool.{Bool, true, false, not, _&&_, _||_}
+use mathlib.Core.List.{List}
+use Prim.Native.Nat.{ℕ}
+use lib.ListN.{getD}
+use Rattle.bits.specs.Bit.{bit}
+use Rattle.cycle.specs.Words.{Passed}
+use Rattle.cycle.specs.declared.string.StringState.{StringState}
+
+-- manifold i's turn, from the words p to the words q: its valve was remembered as open or not, and is open now or not
+pub record Turn (i mask : ℕ) (was now : Bool) (p q : Passed) : Type 0 where
+  -- "Remembered open, now closed: the saved set is the manifold's jets not failed; all its jets fail; their re-enables lapse."
+  pub closes : was ≡ true → now ≡ false → (j : ℕ)
+      → (bit j (getD (q .saved) i 0) ≡ (bit j mask && not (bit j (p .fail))))
+      × (bit j (q .fail) ≡ (bit j (p .fail) || bit j mask))
+      × (bit j (q .reenable) ≡ (bit j (p .reenable) && not (bit j mask)))
+  -- "Remembered closed, now open: the saved set leaves the fail word."
+  pub opens : was ≡ false → now ≡ true
+      → ((j : ℕ) → bit j (q .fail) ≡ (bit j (p .fail) && not (bit j (getD (p .saved) i 0))))
+      × (q .reenable ≡ p .reenable)
+      × (q .saved ≡ p .saved)
+  pub stays : was ≡ now → q ≡ p
+  pub others : (k : ℕ) → (k ≡ i → ⊥) → getD (q .saved) k 0 ≡ getD (p .saved) k 0
+
+-- the words before the first turn
+abbrev pub wordsOf : StringState → Passed
+wordsOf s = record { fail = s .standing .fail; reenable = s .over .reenable; saved = s .standing .saved }
+
+-- step 4 takes the string s to the string t, V being `now`
+pub record FourTurns (masks : List ℕ) (now : ℕ) (s t : StringState) : Type 0 where
+  pub one : Passed
+  pub two : Passed
+  pub three : Passed
+  pub four : Passed
+  pub first : Turn 0 (getD masks 0 0) (bit 0 (s .standing .valves)) (bit 0 now) (wordsOf s) one
+  pub second : Turn 1 (getD masks 1 0) (bit 1 (s .standing .valves)) (bit 1 now) one two
+  pub third : Turn 2 (getD masks 2 0) (bit 2 (s .standing .valves)) (bit 2 now) two three
+  pub fourth : Turn 3 (getD masks 3 0) (bit 3 (s .standing .valves)) (bit 3 now) three four
+  -- "Then all inhibited jets are failed and V is remembered."
+  pub fail : (j : ℕ) → bit j (t .standing .fail) ≡ (bit j (four .fail) || bit j (s .over .inhibit))
+  pub valves : t .standing .valves ≡ now
+  pub saved : t .standing .saved ≡ four .saved
+  pub reenable : t .over .reenable ≡ four .reenable
+  pub rest : (t .over .inhibit ≡ s .over .inhibit)
+      × (t .good ≡ s .good)
+      × (t .off ≡ s .off)
+      × (t .on ≡ s .on)
+      × (t .close ≡ s .close)
+      × (t .lost ≡ s .lost)
