@@ -69,6 +69,11 @@ pub not-no : (b : Bool) → not b ≡ false → b ≡ true
 not-no true e = refl
 not-no false e = sym e
 
+-- what cannot be true is false
+pub not-yes : (b : Bool) → (b ≡ true → ⊥) → b ≡ false
+not-yes true h = absurd (h refl)
+not-yes false h = refl
+
 pub not-false : (b : Bool) → b ≡ false → not b ≡ true
 not-false b e = rw e
 

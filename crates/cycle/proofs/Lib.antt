@@ -24,3 +24,5 @@ pub mod Runs
 pub mod RunClose
 pub mod Overrides
 pub mod Turns
+pub mod UnmappedSteps
+pub mod UnmappedNone

@@ -10,7 +10,7 @@ use native.Mathlib.Omega.{arith}
 use lib.ListN.{getD, length}
 use lib.Seq.{getD-set-same, getD-set-other}
 use Rattle.bits.specs.Bit.{bit}
-use Rattle.bits.proofs.Yes.{or-false, and-true}
+use Rattle.bits.proofs.Yes.{or-false, and-true, not-yes}
 use Rattle.bits.proofs.Bits.{bit-or, bit-without}
 use Rattle.cycle.specs.Jets as jets
 use Rattle.cycle.specs.Words as words
@@ -26,11 +26,6 @@ abbrev onTheWay : Passed → StringState → StringState
 onTheWay p s =
     words.withOver (record { inhibit = s .over .inhibit; reenable = p .reenable })
     (words.withStanding (record { fail = p .fail; valves = s .standing .valves; saved = p .saved }) s)
-
--- what cannot be true is false
-clear : (b : Bool) → (b ≡ true → ⊥) → b ≡ false
-clear true h = absurd (h refl)
-clear false h = refl
 
 module _ (i j : ℕ) (s : StringState) where
   -- another manifold, in whose mask and saved set the jet is not
@@ -61,8 +56,8 @@ module _ (i j : ℕ) (s : StringState) where
         let q : Passed = passed n masks was now p in
         let sets : ProperSets m masks (q .saved) = passed-proper m masks n was now p (omega arith) proper in
         other-manifold n (getD masks n 0) (bit n was) (bit n now) q ne
-        (clear (bit j (getD masks n 0)) (λ e. ne (d .apart i n j below l stands e)))
-        (clear (bit j (getD (q .saved) n 0)) (λ e. ne (d .apart i n j below l stands (sets .within n j l e))))
+        (not-yes (bit j (getD masks n 0)) (λ e. ne (d .apart i n j below l stands e)))
+        (not-yes (bit j (getD (q .saved) n 0)) (λ e. ne (d .apart i n j below l stands (sets .within n j l e))))
 
     -- up to i nothing has changed for the jet
     before : (n : ℕ) → n ≤ i → jetOf i j (onTheWay (passed n masks was now p) s) ≡ jetOf i j (onTheWay p s)
