@@ -26,3 +26,4 @@ pub mod Overrides
 pub mod Turns
 pub mod UnmappedSteps
 pub mod UnmappedNone
+pub mod UnmappedAlike
