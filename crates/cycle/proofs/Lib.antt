@@ -27,3 +27,4 @@ pub mod Turns
 pub mod UnmappedSteps
 pub mod UnmappedNone
 pub mod UnmappedAlike
+pub mod ProperSteps

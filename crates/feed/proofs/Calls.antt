@@ -12,3 +12,4 @@ pub mod RunLaws
 pub mod Running
 pub mod NoLongWait
 pub mod NextRecord
+pub mod HandedIn
