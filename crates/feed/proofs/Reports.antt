@@ -8,3 +8,4 @@ pub mod ReportPlaces
 pub mod BalanceBits
 pub mod ReportsTell
 pub mod CloseFirst
+pub mod ReliedOn

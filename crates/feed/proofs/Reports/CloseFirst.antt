@@ -101,6 +101,12 @@ module _ (masks : List Masks) (fit : FitMap masks) (accepted : refused stringCou
       → (isTaken (answerOf masks c cs) ≡ false → P) → P
   by-answer c cs f g = by-test (isTaken (answerOf masks c cs)) (λ t. f (taken-only (answerOf masks c cs) t)) g
 
+  -- a call more takes nothing away
+  third-stays : (c : Made) (cs : List Made) → ThirdEver mask s i (takenRecords masks cs) → ThirdEver mask s i (takenRecords masks (c ∷ cs))
+  third-stays c cs x = by-answer c cs
+      (λ e. rw (taken-grows c cs e) (third-then mask s i (newest c cs) (takenRecords masks cs) x))
+      (λ g. rw (taken-stays c cs g) x)
+
   never-to : (cs : List Made) → NeverShown masks s i cs → ThirdEver mask s i (takenRecords masks cs) → ⊥
   unfolding takenRecords
   never-to [] n x = x .third
@@ -110,12 +116,7 @@ module _ (masks : List Masks) (fit : FitMap masks) (accepted : refused stringCou
 
   never-from : (cs : List Made) → (ThirdEver mask s i (takenRecords masks cs) → ⊥) → NeverShown masks s i cs
   never-from [] f = tt
-  never-from (c ∷ cs) f = (λ e y. f (close-shown c cs e .0 y), never-from cs (λ x. f (still c cs x)))
-    where
-      still : (c : Made) (cs : List Made) → ThirdEver mask s i (takenRecords masks cs) → ThirdEver mask s i (takenRecords masks (c ∷ cs))
-      still c cs x = by-answer c cs
-          (λ e. rw (taken-grows c cs e) (third-then mask s i (newest c cs) (takenRecords masks cs) x))
-          (λ g. rw (taken-stays c cs g) x)
+  never-from (c ∷ cs) f = (λ e y. f (close-shown c cs e .0 y), never-from cs (λ x. f (third-stays c cs x)))
 
   -- "With no such cycle it never appears", and the reverse
   pub close-never : (cs : List Made) → NeverShown masks s i cs ↔ (ThirdEver mask s i (takenRecords masks cs) → ⊥)
@@ -144,3 +145,13 @@ module _ (masks : List Masks) (fit : FitMap masks) (accepted : refused stringCou
         close-shown c cs (ap writesReport e) .1 (rw (taken-grows c cs e) (third-now mask s i t ts now)),
         never-from cs none,
       )
+
+  -- "which stays": once in a report, it is in every later one
+  third-later : (later cs : List Made) → ThirdEver mask s i (takenRecords masks cs) → ThirdEver mask s i (takenRecords masks (later ++ cs))
+  third-later [] cs x = x
+  third-later (c ∷ later) cs x = third-stays c (later ++ cs) (third-later later cs x)
+
+  pub close-stays : (c : Made) (cs later : List Made) (d : Made) → writesReport (answerOf masks c cs) ≡ true → Shows masks s i c cs
+      → writesReport (answerOf masks d (later ++ (c ∷ cs))) ≡ true → Shows masks s i d (later ++ (c ∷ cs))
+  close-stays c cs later d w shown v =
+      close-shown d (later ++ (c ∷ cs)) v .1 (third-later (d ∷ later) (c ∷ cs) (close-shown c cs w .0 shown))
