@@ -45,14 +45,14 @@ inMask masks i j = bit j (getD masks i 0) ≡ true
 abbrev pub FitMap : List Masks → Type 0
 FitMap masks = (s i : ℕ) → s < stringCount → i < manifoldCount → getD (masksOf masks s) i 0 < 2 ^ wordBits
 
--- "two masks of one string share a bit": jet `jet` stands in two masks of string `string`
+-- "two masks of one string share a bit": jet `jet` stands in two masks of string `string`, of four strings with four masks each
 pub record TwoMasks (masks : List Masks) : Type 0 where
   pub string : ℕ
   pub one : ℕ
   pub other : ℕ
   pub jet : ℕ
-  pub inHall : string < stringCount
+  pub inHall : string < 4
   pub apart : one < other
-  pub inString : other < manifoldCount
+  pub inString : other < 4
   pub inOne : inMask (masksOf masks string) one jet
   pub inOther : inMask (masksOf masks string) other jet

@@ -6,8 +6,7 @@ use mathlib.Core.List.{List, [], _++_}
 use mathlib.Core.Logic.{_⊎_, _↔_}
 use Prim.Native.Nat.{ℕ, _+_, _-_, _*_, _%_, _<_, _≤_}
 use lib.ListN.{length, getD, take, drop, replicate}
-use Rattle.cycle.specs.Size.{stringCount}
-use Rattle.cycle.specs.Map.{TwoMasks, noMasks}
+use Rattle.cycle.specs.Map.{TwoMasks}
 use Rattle.cycle.specs.Hall.{freshHall, stepped}
 use Rattle.cycle.specs.declared.answer.Answer.{Answer}
 use Rattle.cycle.specs.declared.answer.Answer.the-variants.{Taken, Stale, Repeat, CountEnded, WrongKind, OutboxShort, MapRefused}
@@ -115,6 +114,9 @@ pub record Read (m : Monitor) (piece : List ℕ) (c : Result) : Type 0 where
 pub record Starts (masks : List Masks) (x : Outcome) : Type 0 where
   pub refused : (x .answer ≡ MapRefused) ↔ TwoMasks masks
   pub accepted : (x .answer ≡ Taken) ↔ (TwoMasks masks → ⊥)
-  pub emptied : TwoMasks masks → x .monitor ≡ holding (freshHall (replicate stringCount noMasks)) []
+  pub emptied : TwoMasks masks → x .monitor ≡ holding (freshHall (replicate 4 (record { words = replicate 4 0 }))) []
   pub fresh : (TwoMasks masks → ⊥) → x .monitor ≡ holding (freshHall masks) []
   pub used : x .used ≡ 0
+  -- "Four strings, 0 to 3"; "two nitrogen banks in each of three modules"
+  pub strings : length (x .monitor .hall .strings) ≡ 4
+  pub modules : length (x .monitor .hall .banks) ≡ 3

@@ -6,7 +6,6 @@ use mathlib.Core.List.{List, [], _∷_}
 use Prim.Native.Nat.{ℕ, _+_, _*_, _<_}
 use lib.ListN.{getD}
 use Rattle.bits.specs.Bit.{bit}
-use Rattle.cycle.specs.Size.{jetCount}
 use Rattle.cycle.specs.Answers.{writesReport}
 use Rattle.cycle.specs.Close.{Third, JetThird}
 use Rattle.cycle.specs.declared.map.Masks.{Masks}
@@ -25,7 +24,7 @@ NeverShown masks s i (c ∷ cs) = (writesReport (answerOf masks c cs) ≡ true �
 -- at the record t, taken after ts, one of the manifold's jets "has been bad at that and the two major cycles before", as demand 3 words it
 pub record ThirdNow (mask s i : ℕ) (t : Heard) (ts : List Heard) : Type 0 where
   pub jet : ℕ
-  pub inWord : jet < jetCount
+  pub inWord : jet < 32
   pub inMask : bit jet mask ≡ true
   pub third : Third (jetHeard s i jet t) (jetHistory s i jet ts)
 

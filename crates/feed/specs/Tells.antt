@@ -5,7 +5,6 @@ use mathlib.Core.List.{List}
 use Prim.Native.Nat.{ℕ, _+_, _*_, _<_, _≤_}
 use lib.ListN.{length, getD}
 use Rattle.bits.specs.Bit.{bit, any}
-use Rattle.cycle.specs.Size.{stringCount, jetCount, manifoldCount, moduleCount}
 use Rattle.cycle.specs.Answers.{numberOf}
 use Rattle.cycle.specs.Jets.{run, hasAsked}
 use Rattle.cycle.specs.Map.{masksOf, inMask}
@@ -15,25 +14,26 @@ use Rattle.feed.specs.Bytes.{two, four}
 use Rattle.feed.specs.Heard.{Heard, reachedBy, jetHistory, bankHeard}
 
 -- "Report, 34 bytes: 52 52; answer; n after it (4); for each string the fail word (4) and close byte (1); balance byte; three lesser
--- quantities (2 each)." Each bit of it by the run of `Jets` from fresh over the jet's own values in the records taken.
+-- quantities (2 each)." Each bit of it by the run of `Jets` from fresh over the jet's own values in the records taken. Four strings, each of
+-- 32 jets and four manifolds, and three modules: the counts are written as document 01 writes them, so that no other is proved.
 pub record Tells (masks : List Masks) (a : Answer) (ts : List Heard) (report : List ℕ) : Type 0 where
   pub long : length report ≡ 34
   pub byte : (k : ℕ) → getD report k 0 < 256
   pub mark : (getD report 0 0 ≡ 0x52) × (getD report 1 0 ≡ 0x52)
   pub answer : getD report 2 0 ≡ numberOf a
   pub number : four report 3 ≡ reachedBy ts
-  pub fail : (s i j : ℕ) → s < stringCount → i < manifoldCount → inMask (masksOf masks s) i j
+  pub fail : (s i j : ℕ) → s < 4 → i < 4 → inMask (masksOf masks s) i j
       → bit j (four report (7 + 5 * s)) ≡ (run (jetHistory s i j ts)) .standing .fail
   -- "bits .. of jets in no mask .. are 0 in reports"
-  pub noMask : (s j : ℕ) → s < stringCount → ((i : ℕ) → i < manifoldCount → inMask (masksOf masks s) i j → ⊥)
+  pub noMask : (s j : ℕ) → s < 4 → ((i : ℕ) → i < 4 → inMask (masksOf masks s) i j → ⊥)
       → bit j (four report (7 + 5 * s)) ≡ false
   -- "Each manifold with a jet in the recheck word that is bad and not re-enabled gets its close bit, which stays."
-  pub close : (s i : ℕ) → s < stringCount → i < manifoldCount
+  pub close : (s i : ℕ) → s < 4 → i < 4
       → bit i (getD report (7 + 5 * s + 4) 0)
-      ≡ any jetCount (λ j. bit j (getD (masksOf masks s) i 0) && hasAsked (jetHistory s i j ts))
-  pub noManifold : (s i : ℕ) → s < stringCount → manifoldCount ≤ i → bit i (getD report (7 + 5 * s + 4) 0) ≡ false
+      ≡ any 32 (λ j. bit j (getD (masksOf masks s) i 0) && hasAsked (jetHistory s i j ts))
+  pub noManifold : (s i : ℕ) → s < 4 → 4 ≤ i → bit i (getD report (7 + 5 * s + 4) 0) ≡ false
   -- "Balance: bit m set if module m is out of balance, bit 4+m if its oxidizer is the lesser."
-  pub unbalanced : (m : ℕ) → m < moduleCount → bit m (getD report 27 0) ≡ (bankHeard m ts) .unbalanced
-  pub oxidizer : (m : ℕ) → m < moduleCount → bit (4 + m) (getD report 27 0) ≡ (bankHeard m ts) .oxidizer
+  pub unbalanced : (m : ℕ) → m < 3 → bit m (getD report 27 0) ≡ (bankHeard m ts) .unbalanced
+  pub oxidizer : (m : ℕ) → m < 3 → bit (4 + m) (getD report 27 0) ≡ (bankHeard m ts) .oxidizer
   pub noModule : (bit 3 (getD report 27 0) ≡ false) × (bit 7 (getD report 27 0) ≡ false)
-  pub lesser : (m : ℕ) → m < moduleCount → two report (28 + 2 * m) ≡ (bankHeard m ts) .lesser
+  pub lesser : (m : ℕ) → m < 3 → two report (28 + 2 * m) ≡ (bankHeard m ts) .lesser

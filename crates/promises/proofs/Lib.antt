@@ -13,4 +13,5 @@ pub mod InstanceFinished
 pub mod InstanceCut
 pub mod InstanceClose
 pub mod SmallRules
+pub mod Keeper
 pub mod Promises

@@ -1,26 +1,40 @@
 -- The front door: what the customer asked for, each demand as theorems about the very definitions that the contracts cite: `call`,
--- `startedOver`, `startedFrom` and `runs` (feed, specs/Call and Masks), which `Monitor::call`, `start`, `start_from` and `run` meet for
--- every state, piece and outbox. The words of each statement are defined in specs/ of `feed` and `cycle`; each proof is a citation.
--- Assumes nothing.
+-- `startedOver`, `startedFrom` and `runs` (feed, specs/Call and Masks). That whatever the contracts of `Monitor::call`, `start`, `start_from`,
+-- `run` and the hall's step allow is what these definitions say, and that no public function asks anything of its caller, is proved in
+-- `Contracts`; what people rely on beyond the demands in `Keeper`. The words of each statement are defined in specs/ of `feed` and `cycle`;
+-- each proof is a citation. Assumes nothing.
 use mathlib.Core.Path.{_≡_, sym, _∙_}
-use mathlib.Core.Bool.{true, false}
+use mathlib.Core.Bool.{true, false, _&&_, _||_}
 use mathlib.Core.List.{List, [], _∷_, _++_}
 use mathlib.Core.Logic.{_↔_}
 use Prim.Native.Nat.{ℕ, _+_, _*_, _/_, _<_, _≤_}
 use lib.ListN.{length, getD, take}
+use Rattle.bits.specs.Bit.{bit, any}
 use Rattle.cycle.specs.Size.{stringCount, manifoldCount}
 use Rattle.cycle.specs.Answers.{writesReport}
-use Rattle.cycle.specs.Jets.{JetRecord, reached, run, asksAt}
-use Rattle.cycle.specs.Map.{masksOf, FitMap, refused}
+use Rattle.cycle.specs.Jets.{JetRecord, reached, run, cycle, asksAt}
+use Rattle.cycle.specs.Words.{manifolds}
+use Rattle.cycle.specs.Records.{Record}
+use Rattle.cycle.specs.Hall.{stringOf, stepped}
+use Rattle.cycle.specs.Views.{jetOf}
+use Rattle.cycle.specs.Proper.{ProperHall}
+use Rattle.cycle.specs.Turns.{FourTurns}
+use Rattle.cycle.specs.Unmapped.{Alike, UnmappedNone}
+use Rattle.cycle.specs.Map.{masksOf, inMask, FitMap, refused}
 use Rattle.cycle.specs.Close.{Rising, Third}
 use Rattle.cycle.specs.declared.answer.Answer.{Answer}
 use Rattle.cycle.specs.declared.answer.Answer.the-variants.{Taken, NothingSettled}
+use Rattle.cycle.specs.declared.hall.Hall.{Hall}
 use Rattle.cycle.specs.declared.map.Masks.{Masks}
+use Rattle.cycle.specs.declared.string.StringState.{StringState}
 use Rattle.cycle.proofs.Close.{asks-third}
+use Rattle.cycle.proofs.Turns as turns
+use Rattle.cycle.proofs.UnmappedAlike as alike
 use Rattle.feed.specs.Bytes.{four}
+use Rattle.feed.specs.Heard.{Heard, jetHeard}
 use Rattle.feed.specs.Settled.{recordIn}
 use Rattle.feed.specs.Answered.{Condition, Leaves, Read, Starts}
-use Rattle.feed.specs.Call.{holds, startedOver, call, runs}
+use Rattle.feed.specs.Call.{holds, Result, startedOver, call, runs}
 use Rattle.feed.specs.Masks.{masksOfBytes, startedFrom}
 use Rattle.feed.specs.Calls.{Made, monitorAfter, answerOf, reportIn, takenReports, takenRecords, Hands, Finished, joined, FinishedPieces}
 use Rattle.feed.specs.PutIn.{PutIn}
@@ -30,8 +44,10 @@ use Rattle.feed.specs.Batch.{Continues}
 use Rattle.feed.specs.declared.call.Monitor.{Monitor}
 use Rattle.feed.proofs.Answers.Answered.{answers-exactly}
 use Rattle.feed.proofs.Answers.Left.{call-leaves}
+use Rattle.feed.proofs.Answers.OnlyCall as only
 use Rattle.feed.proofs.Calls.CallReads.{call-reads}
 use Rattle.feed.proofs.Calls.Starting as starting
+use Rattle.feed.proofs.Calls.HandedIn as handed
 use Rattle.feed.proofs.Reports.ReportsTell as reports
 use Rattle.feed.proofs.Cutting.CutAnywhere as cutting
 use Rattle.feed.proofs.Cutting.Finishing as finishing
@@ -66,6 +82,15 @@ holds-exactly = starting.holds-exactly
 pub reads : (m : Monitor) (piece out : List ℕ) → 34 ≤ length out → Read m piece (call m piece out)
 reads = call-reads
 
+-- These three leave no choice: any function of monitor, piece and outbox that meets them is `call`.
+pub only-call : (f : Monitor → List ℕ → List ℕ → Result)
+    → ((m : Monitor) (piece out : List ℕ) (a : Answer)
+    → ((f m piece out) .outcome .answer ≡ a) ↔ Condition a (m .hall) (length out) (recordIn (holds m ++ piece)))
+    → ((m : Monitor) (piece out : List ℕ) → Leaves ((f m piece out) .outcome .answer) m piece out (f m piece out))
+    → ((m : Monitor) (piece out : List ℕ) → 34 ≤ length out → Read m piece (f m piece out))
+    → (m : Monitor) (piece out : List ℕ) → f m piece out ≡ call m piece out
+only-call = only.only-call
+
 -- starting: 6 if and only if some jet stands in two masks of one string; the map may come as 64 bytes
 pub starts : (masks : List Masks) → FitMap masks → Starts masks (startedOver masks)
 starts = starting.starts-exactly
@@ -76,7 +101,7 @@ starts-from = starting.starts-from
 pub no-map : (l : List ℕ) → (length l ≡ 64 → ⊥) → (startedFrom l) .answer ≡ NothingSettled
 no-map = starting.no-map
 
-pub mask-at : (l : List ℕ) (s i : ℕ) → s < stringCount → i < manifoldCount
+pub mask-at : (l : List ℕ) (s i : ℕ) → s < 4 → i < 4
     → getD (masksOf (masksOfBytes l) s) i 0 ≡ four l (16 * s + 4 * i)
 mask-at = starting.mask-at
 
@@ -117,7 +142,7 @@ module _ (masks : List Masks) (words : FitMap masks) (accepted : refused stringC
   reports-tell = reports.reports-tell masks words accepted
 
   -- Demand 3, close, for manifold i of string s
-  module _ (s i : ℕ) (string : s < stringCount) (manifold : i < manifoldCount) where
+  module _ (s i : ℕ) (string : s < 4) (manifold : i < 4) where
     -- the close command is in a report if and only if the newest record taken or an earlier one is such a third major cycle
     pub close-shown : (c : Made) (cs : List Made) → writesReport (answerOf masks c cs) ≡ true
         → Shows masks s i c cs ↔ ThirdEver (getD (masksOf masks s) i 0) s i (takenRecords masks (c ∷ cs))
@@ -139,3 +164,46 @@ module _ (masks : List Masks) (words : FitMap masks) (accepted : refused stringC
 -- a jet asks for the close at a taken record if and only if the record is the third of three as demand 3 words it
 pub jet-asks : (h : List JetRecord) (r : JetRecord) → Rising (r ∷ h) → (asksAt (reached h) r (run h) ≡ true) ↔ Third r h
 jet-asks = asks-third
+
+-- ---- States handed in: "any other is stepped by these rules as it stands"
+
+-- A hall is proper if no jet stands in two masks and each saved set lies within its mask: a fresh one over an accepted map is, and every
+-- call keeps it so. Each mapped jet of a proper hall, whether a run reaches it or not, is after a taken record what the jet's rules make of
+-- what it was; and a manifold's close bit is set if it was or one of the manifold's jets asks.
+pub calls-proper : (masks : List Masks) → FitMap masks → refused stringCount masks ≡ false → (cs : List Made)
+    → ProperHall ((monitorAfter masks cs) .hall)
+calls-proper = handed.calls-proper
+
+pub call-proper : (m : Monitor) (piece out : List ℕ) → ProperHall (m .hall) → ProperHall ((call m piece out) .outcome .monitor .hall)
+call-proper = handed.call-proper
+
+module _ (m : Monitor) (piece out : List ℕ) (proper : ProperHall (m .hall)) (taken : (call m piece out) .outcome .answer ≡ Taken) (s i : ℕ)
+    (string : s < 4) (manifold : i < 4) where
+  -- the record taken, and the number that it led to
+  abbrev newest : Heard
+  newest = record { n = (call m piece out) .outcome .monitor .hall .n; bytes = recordIn (holds m ++ piece) }
+
+  pub jet-steps : (j : ℕ) → inMask (masksOf (m .hall .masks) s) i j
+      → jetOf i j (stringOf ((call m piece out) .outcome .monitor .hall) s)
+      ≡ cycle (m .hall .n) (jetHeard s i j newest) (jetOf i j (stringOf (m .hall) s))
+  jet-steps = handed.jet-steps m piece out proper taken s i string manifold
+
+  pub close-steps : bit i ((stringOf ((call m piece out) .outcome .monitor .hall) s) .close)
+      ≡ (bit i ((stringOf (m .hall) s) .close)
+      || any 32
+      (λ j. bit j (getD (masksOf (m .hall .masks) s) i 0)
+      && asksAt (m .hall .n) (jetHeard s i j newest) (jetOf i j (stringOf (m .hall) s))))
+  close-steps = handed.close-steps m piece out proper taken s i string manifold
+
+-- Step 4 of any string, also with overlapping masks and saved sets beyond them: the manifolds' turns, lowest first.
+pub four-turns : (masks : List ℕ) (now : ℕ) (s : StringState) → length (s .standing .saved) ≡ 4
+    → FourTurns masks now s (manifolds manifoldCount masks now s)
+four-turns = turns.four-turns
+
+-- "Bits and temperatures of jets in no mask are ignored everywhere": two records that agree on all but those step every hall alike; and from
+-- fresh their bits are 0 in every state.
+pub alike-step : (h : Hall) (a b : Record) → Alike (h .masks) a b → stepped a h ≡ stepped b h
+alike-step = alike.alike-step
+
+pub unmapped-none : (masks : List Masks) (cs : List Made) → UnmappedNone ((monitorAfter masks cs) .hall)
+unmapped-none = handed.unmapped-none

@@ -12,7 +12,7 @@ use Rattle.bits.proofs.Words.{any-same}
 use Rattle.cycle.specs.Size.{stringCount, jetCount, manifoldCount}
 use Rattle.cycle.specs.Answers.{isTaken}
 use Rattle.cycle.specs.Jets.{JetRecord, cycle, asksAt}
-use Rattle.cycle.specs.Map.{noMasks, masksOf, inMask, refused}
+use Rattle.cycle.specs.Map.{noMasks, masksOf, inMask, FitMap, refused}
 use Rattle.cycle.specs.Hall.{stringOf, freshHall, started, stepped}
 use Rattle.cycle.specs.Views.{jetOf, jetRecord}
 use Rattle.cycle.specs.Proper.{ProperHall}
@@ -35,6 +35,7 @@ use Rattle.feed.proofs.Records.Lengths.{below-or}
 use Rattle.feed.proofs.Records.HeardValues.{record-heard}
 use Rattle.feed.proofs.Calls.Calling.{call-called}
 use Rattle.feed.proofs.Calls.CallCases.{CallCase, none, some, call-case}
+use Rattle.feed.proofs.Calls.CallRuns.{calls-kept}
 use Rattle.feed.proofs.Answers.Fixed.{short-call}
 
 -- ---- the hall after a call
@@ -130,6 +131,10 @@ module _ (m : Monitor) (piece out : List ℕ) (p : ProperHall (m .hall)) (t : (c
       (λ j. mask j && asks (heard j) j) (λ j b. ap (λ (r : JetRecord). mask j && asks r j) (as-heard j b)))
 
 -- ---- from fresh
+
+pub calls-proper : (masks : List Masks) → FitMap masks → refused stringCount masks ≡ false → (cs : List Made)
+    → ProperHall ((monitorAfter masks cs) .hall)
+calls-proper masks fit accepted cs = calls-kept masks fit accepted cs .run .proper
 
 fresh-none : (masks : List Masks) → AllNone ((startedOver masks) .monitor .hall)
 unfolding startedOver started

@@ -10,7 +10,7 @@ use lib.ListN.{length, getD, take}
 use Rattle.bits.proofs.Yes.{not-both}
 use Rattle.cycle.specs.Size.{stringCount, manifoldCount}
 use Rattle.cycle.specs.Map.{masksOf, FitMap, TwoMasks, pastMasks, refused}
-use Rattle.cycle.specs.Hall.{started}
+use Rattle.cycle.specs.Hall.{freshHall, started}
 use Rattle.cycle.specs.declared.answer.Answer.the-variants.{NothingSettled}
 use Rattle.cycle.specs.declared.map.Masks.{Masks}
 use Rattle.cycle.proofs.Maps.{refused-exactly}
@@ -23,7 +23,7 @@ use Rattle.feed.specs.Masks.{maskWordsAt, masksAt, masksOfBytes, started
 use Rattle.feed.proofs.Records.Tables.{table-at}
 
 pub starts-exactly : (masks : List Masks) → FitMap masks → Starts masks (startedOver masks)
-unfolding startedOver started
+unfolding startedOver started freshHall
 starts-exactly masks fit = by (refused stringCount masks) refl
   where
     by : (b : Bool) → refused stringCount masks ≡ b → Starts masks (startedOver masks)
@@ -35,6 +35,8 @@ starts-exactly masks fit = by (refused stringCount masks) refl
           emptied = λ x. refl;
           fresh = λ f. absurd (f two);
           used = refl;
+          strings = refl;
+          modules = refl;
         })
     by false e =
         let none : TwoMasks masks → ⊥ = λ x. not-both (refused stringCount masks) (refused-exactly masks fit .1 x) e in
@@ -44,6 +46,8 @@ starts-exactly masks fit = by (refused stringCount masks) refl
           emptied = λ x. absurd (none x);
           fresh = λ f. refl;
           used = refl;
+          strings = refl;
+          modules = refl;
         })
 
 -- ---- the map from its bytes
