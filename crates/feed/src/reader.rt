@@ -7,7 +7,7 @@ ghost use lib.ListN.{length, take, drop, replicate};
 ghost use Rattle.feed.specs.Size.{storeLength, mostHeld};
 ghost use Rattle.feed.specs.Reader.{store, heldCount};
 ghost use Rattle.feed.specs.Settled.{frontOf};
-ghost use Rattle.feed.specs.Inside.Finding.{calmOf, Skips, filled, Finds};
+ghost use Rattle.feed.specs.Inside.Finding.{calmOf, Skips, StopsAt, filled, Finds};
 use crate::format::Look;
 use crate::format::length_marked;
 use crate::format::length_of;
@@ -138,6 +138,7 @@ pub(crate) fn held_count(count: usize) -> usize
 fn skipped(piece: &[u8], from: usize, held: usize) -> usize
     requires { ⌜ from < length (now piece) ⌝ }
     ensures { λ r. ⌜ Skips held (now (piece .entry)) from r ⌝ }
+    ensures { λ r. ⌜ StopsAt held (now (piece .entry)) r ⌝ }
 {
     if 0 < held {
         return from;

@@ -2,7 +2,7 @@
 use Prim.Native.Nat.{ℕ, _+_, _<_, _≤_}
 use mathlib.Core.Path.{_≡_, refl, sym, ap, _∙_}
 use mathlib.Core.List.{List, [], _∷_}
-use mathlib.Core.Logic.{⊎-elim}
+use mathlib.Core.Logic.{_⊎_, inl, inr, ⊎-elim}
 use native.Mathlib.Nat.{eq-or-lt-of-le}
 use native.Mathlib.Omega.{arith}
 use borrow.Author.Tests.{ne-eqb}
@@ -11,8 +11,9 @@ use lib.Seq.{drop-cons}
 use Rattle.feed.specs.Size.{markByte}
 use Rattle.feed.specs.Format.{look}
 use Rattle.feed.specs.Reader.{settle, reads, Stop}
-use Rattle.feed.specs.Inside.Finding.{Skips}
+use Rattle.feed.specs.Inside.Finding.{Skips, StopsAt}
 use Rattle.feed.specs.declared.format.Look.the-variants.{Drops}
+use Rattle.feed.proofs.Records.Lengths.{below-or}
 use Rattle.feed.proofs.Reading.Reads.{reads-same}
 use Rattle.feed.proofs.Reading.InPlace.{drops-one}
 use Rattle.feed.proofs.Reading.Finding.{Passed, passed-none, passed-more}
@@ -28,14 +29,40 @@ pub passed-other : (piece : List ℕ) (from at : ℕ) → Passed piece from at �
 passed-other piece from at t h e = passed-more piece from at t h (other-drops piece at h e)
 
 pub skip-none : (n : ℕ) (piece : List ℕ) (from : ℕ) → from < length piece → Skips n piece from from
-skip-none n piece from h = record { on = omega arith; within = h; stays = λ z. refl; same = refl }
+skip-none n piece from h = record { on = omega arith; within = h; stays = λ z. refl; passed = λ k a b. absurd (omega arith); same = refl }
 
 pub skip-on : (n : ℕ) (piece : List ℕ) (from at : ℕ) → n ≤ 0 → Skips n piece from at → at + 1 < length piece
     → (getD piece at 0 ≡ markByte → ⊥) → Skips n piece from (at + 1)
 skip-on n piece from at z k h e =
     let t = passed-other piece at at (passed-none piece at (omega arith)) (omega arith) e in
     let o = k .on in
-    record { on = omega arith; within = h; stays = λ y. absurd (omega arith); same = t .same ∙ k .same }
+    record {
+      on = omega arith;
+      within = h;
+      stays = λ y. absurd (omega arith);
+      passed = λ i a b. ⊎-elim (λ (q : i ≡ at). rw q e) (λ (l : i < at). k .passed i a l) (eq-or-lt-of-le (omega arith));
+      same = t .same ∙ k .same;
+    }
+
+-- two places that the contract allows are the same
+skip-no-further : (n : ℕ) (piece : List ℕ) (from r q : ℕ) → n ≡ 0 → Skips n piece from r → StopsAt n piece r → Skips n piece from q
+    → q ≤ r
+skip-no-further n piece from r q z k stops g = by (stops z) (below-or r q)
+  where
+    by : (getD piece r 0 ≡ markByte) ⊎ (r + 1 ≡ length piece) → (r < q) ⊎ (q ≤ r) → q ≤ r
+    by e (inr l) = l
+    by (inl e) (inl l) = absurd (g .passed r (k .on) l e)
+    by (inr e) (inl l) = absurd (omega (arith, g .within))
+
+pub skip-once : (n : ℕ) (piece : List ℕ) (from r q : ℕ) → Skips n piece from r → StopsAt n piece r → Skips n piece from q
+    → StopsAt n piece q → r ≡ q
+skip-once n piece from r q k a g b =
+    ⊎-elim
+    (λ (z : 0 ≡ n).
+    let one = skip-no-further n piece from r q (sym z) k a g in
+    let other = skip-no-further n piece from q r (sym z) g b k in
+    omega arith)
+    (λ (l : 0 < n). k .stays l ∙ sym (g .stays l)) (eq-or-lt-of-le (omega arith))
 
 none : (l : List ℕ) → 0 ≡ length l → l ≡ []
 none [] e = refl

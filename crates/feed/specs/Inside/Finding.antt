@@ -3,6 +3,7 @@
 use mathlib.Core.Path.{_≡_}
 use mathlib.Core.Bool.{Bool, true, false, not, cond, _&&_}
 use mathlib.Core.List.{List, [], _∷_}
+use mathlib.Core.Logic.{_⊎_}
 use Prim.Native.Nat.{ℕ, suc, _+_, _-_, _≤_, _<_, min}
 use lib.Dec.{eqb, ltb}
 use lib.ListN.{length, getD, take, drop}
@@ -24,7 +25,12 @@ pub record Skips (n : ℕ) (piece : List ℕ) (from r : ℕ) : Type 0 where
   pub on : from ≤ r
   pub within : r < length piece
   pub stays : 0 < n → r ≡ from
+  pub passed : (k : ℕ) → from ≤ k → k < r → getD piece k 0 ≡ markByte → ⊥
   pub same : reads [] (drop r piece) ≡ reads [] (drop from piece)
+
+-- and no byte more is passed over: where nothing is held, r is the first that can begin a mark, or the last of the piece
+abbrev pub StopsAt : ℕ → List ℕ → ℕ → Type 0
+StopsAt n piece r = n ≡ 0 → (getD piece r 0 ≡ markByte) ⊎ (r + 1 ≡ length piece)
 
 -- what is found by way of the store, and the store then
 pub record Filled : Type 0 where

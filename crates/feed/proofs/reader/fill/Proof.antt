@@ -107,7 +107,7 @@ skipped-requires : tie.Need-skipped-requires Inv-loop μ-loop
 skipped-requires c κs = let w = c .before .before .before .before .before .loop .inv .within in search needs
 
 shared-slice-read-b : tie.Need-shared-slice-read-b Inv-loop μ-loop
-shared-slice-read-b c = c .before .skipped .ensures .within
+shared-slice-read-b c = c .before .skipped .ensures .0 .within
 
 -- a place is free
 room : (c : tie.Else3 Inv-loop μ-loop) → c .before .before .if1 .n < storeLength
@@ -149,7 +149,7 @@ taken : (c : tie.After-row-known Inv-loop μ-loop)
 taken c =
     let j = joined (joint c) in
     let k = c .before .before .before .before .if2 .left in
-    let skips = c .before .before .skipped .ensures in
+    let skips = c .before .before .skipped .ensures .0 in
     let t = turn-skip _ _ _ _ _ (head c .loop .inv) _ _ (j .1) skips in
     turn-more _ _ _ _ _ t _ (joint c .before .find-front .ensures) _ _ (j .0) (j .1) k (skips .within)
 

@@ -3,6 +3,7 @@ use Prim.Native.Nat.{_≤_, _+_, _-_}
 use mathlib.Core.Path.{_≡_}
 use native.Mathlib.Omega.{arith}
 use borrow.Author.Needs.{needs}
+use mathlib.Core.Logic.{inl, inr}
 use lib.ListN.{length}
 use Rattle.feed.specs.Inside.Finding.{Skips}
 use Rattle.feed.proofs.Reading.Skipping.{skip-none, skip-on}
@@ -16,13 +17,13 @@ abbrev μ-loop : tie.MeasureT-loop
 μ-loop piece from held last at₀ at = last - at
 
 returns : tie.Need-returns Inv-loop μ-loop
-returns c = skip-none _ _ _ (c .before .pre)
+returns c = (skip-none _ _ _ (c .before .pre), λ z. absurd (omega arith))
 
 loop-holds : tie.Need-loop-holds Inv-loop μ-loop
 loop-holds c = let h = c .before .pre in (search needs, omega arith, skip-none _ _ _ h)
 
 returns-2 : tie.Need-returns-2 Inv-loop μ-loop
-returns-2 c = c .before .before .before .loop .inv .2
+returns-2 c = (c .before .before .before .loop .inv .2, λ z. inl (c .if2 .taken))
 
 loop-again : tie.Need-loop-again Inv-loop μ-loop
 loop-again c =
@@ -31,7 +32,12 @@ loop-again c =
     (v .0, e, skip-on _ _ _ _ (v .0) (v .2) (omega arith) (c .if2 .left))
 
 returns-3 : tie.Need-returns-3 Inv-loop μ-loop
-returns-3 c = c .before .loop .inv .2
+returns-3 c =
+    let v = c .before .loop .inv in
+    let e = v .1 in
+    let within = v .2 .within in
+    let end : c .before .loop .at + 1 ≡ length (c .before .before .before .args .piece .now) = omega arith in
+    (v .2, λ z. inr end)
 
 pub skipped-spec : {M : Type 1} → statement M
 skipped-spec =
