@@ -26,5 +26,6 @@ pub mod Overrides
 pub mod Turns
 pub mod UnmappedSteps
 pub mod UnmappedNone
+pub mod UnmappedWords
 pub mod UnmappedAlike
 pub mod ProperSteps

@@ -1,7 +1,7 @@
 -- What a night keeper relies on, jet by jet, after every history: an inhibit in force fails the jet, a re-enable in force keeps it good, and
 -- the two are never in force together. Assumes nothing.
 use mathlib.Core.Path.{_≡_, refl, sym, ap, _∙_}
-use mathlib.Core.Bool.{Bool, true, false, not, cond, _&&_, _||_}
+use mathlib.Core.Bool.{Bool, true, false, not, _&&_, _||_}
 use mathlib.Core.List.{List, [], _∷_}
 use Prim.Native.Nat.{ℕ}
 use Rattle.bits.proofs.Yes.{not-both, and-false}

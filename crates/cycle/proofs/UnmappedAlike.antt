@@ -1,26 +1,16 @@
 -- Two records that agree on all but unmapped jets step every hall alike. Assumes nothing.
 use mathlib.Core.Path.{_≡_, refl, sym, ap, ap₂, _∙_}
-use mathlib.Core.Bool.{Bool, true, false, not, cond, _&&_, _||_}
+use mathlib.Core.Bool.{Bool, true, false}
 use mathlib.Core.List.{List}
-use Prim.Native.Nat.{ℕ, zero, suc, _+_, _*_, _<_, _≤_, _^_}
-use native.Mathlib.Omega.{arith}
-use borrow.Author.Tests.{ltb-true, ltb-false}
-use lib.Bits.{bitAnd, bitOr}
-use lib.Dec.{ltb}
+use Prim.Native.Nat.{ℕ, _<_}
 use lib.ListN.{getD}
-use lib.Pow.{pow-lt, pow-mono}
-use Rattle.bits.specs.Bit.{bit, without}
+use Rattle.bits.specs.Bit.{bit}
 use Rattle.bits.proofs.Yes.{not-both}
-use Rattle.bits.proofs.Bits.{bit-and, bit-or, bit-without, bit-past, bit-ext}
-use Rattle.bits.proofs.Words.{pack-at, pack-lt}
-use Rattle.cycle.specs.Size.{stringCount, jetCount, manifoldCount, moduleCount}
-use Rattle.cycle.specs.Map.{masksOf, mapped, inMask}
+use Rattle.cycle.specs.Size.{stringCount, manifoldCount, moduleCount}
+use Rattle.cycle.specs.Map.{masksOf, mapped}
 use Rattle.cycle.specs.Numbers.{judged}
 use Rattle.cycle.specs.Jets.{JetRecord}
 use Rattle.cycle.specs.Leak.{leaks}
-use Rattle.cycle.specs.Words.{offFailure, manifolds, gapped, recovered, jetLeaks, leakWord, badJets, badOf, afterRequests, requested}
-use Rattle.cycle.specs.Words.{withOff, withFail, offFails, onFailure, rechecked, kept, pathLost}
-use Rattle.cycle.specs.Words.{minorSteps, majorSteps, minorCycle, majorCycle}
 use Rattle.cycle.specs.Banks.{weighedAll}
 use Rattle.cycle.specs.Records.{Record, minor, major, majorKind, common}
 use Rattle.cycle.specs.Hall.{pastString, sampleOf, noTemperatures, noRequests, minorStrings, majorStrings, taken, steppedBy, stepped}
@@ -29,140 +19,20 @@ use Rattle.cycle.specs.Unmapped.{Alike}
 use Rattle.cycle.specs.declared.answer.Answer.the-variants.{Taken}
 use Rattle.cycle.specs.declared.banks.Bank.{Bank}
 use Rattle.cycle.specs.declared.hall.Hall.{Hall}
-use Rattle.cycle.specs.declared.hall.Stepped.{Stepped}
 use Rattle.cycle.specs.declared.map.Masks.{Masks}
 use Rattle.cycle.specs.declared.number.Next.{Next}
 use Rattle.cycle.specs.declared.number.Verdict.{Verdict}
 use Rattle.cycle.specs.declared.number.Verdict.the-variants.{Takes, Refuses}
-use Rattle.cycle.specs.declared.string.OffSlots.{OffSlots}
 use Rattle.cycle.specs.declared.string.StringState.{StringState}
-use Rattle.cycle.specs.declared.values.Sample.{Sample}
 use Rattle.cycle.specs.declared.values.Temperatures.{Temperatures}
 use Rattle.cycle.specs.declared.values.Requests.{Requests}
-use Rattle.cycle.specs.declared.values.Minor.{Minor}
 use Rattle.cycle.specs.declared.values.Major.{Major}
 use Rattle.cycle.specs.declared.values.Quantities.{Quantities}
 use Rattle.cycle.proofs.Maps.{mapped-found}
 use Rattle.cycle.proofs.Each.{each-same}
+use Rattle.cycle.proofs.UnmappedWords.{leak-same, AlikeString, minor-cycle-same, major-cycle-same}
 
--- ---- words of the same bits
-
-below-power : (n : ℕ) → n < 2 ^ n
-below-power zero = omega arith
-below-power (suc n) = omega (arith, below-power n, pow-lt {i = n} {j = suc n} (omega arith))
-
-words-same : (a b : ℕ) → ((j : ℕ) → bit j a ≡ bit j b) → a ≡ b
-words-same a b same =
-    let more : 2 ^ a ≤ 2 ^ (a + b) = pow-mono (omega arith) in
-    let also : 2 ^ b ≤ 2 ^ (a + b) = pow-mono (omega arith) in
-    bit-ext (a + b) a b (omega (arith, below-power a)) (omega (arith, below-power b)) (λ j l. same j)
-
-leak-same : (t u : Temperatures) (j : ℕ) → jetLeaks (t .words) j ≡ jetLeaks (u .words) j → bit j (leakWord t) ≡ bit j (leakWord u)
-unfolding leakWord
-leak-same t u j e = by (ltb j jetCount) refl
-  where
-    by : (b : Bool) → ltb j jetCount ≡ b → bit j (leakWord t) ≡ bit j (leakWord u)
-    by true l =
-        let below = ltb-true j jetCount l in
-        pack-at jetCount (jetLeaks (t .words)) j below ∙ e ∙ sym (pack-at jetCount (jetLeaks (u .words)) j below)
-    by false l =
-        let past = ltb-false j jetCount l in
-        bit-past jetCount j (leakWord t) (pack-lt jetCount (jetLeaks (t .words))) past
-        ∙ sym (bit-past jetCount j (leakWord u) (pack-lt jetCount (jetLeaks (u .words))) past)
-
--- ---- words cut down to the mapped jets
-
--- the two agree wherever the word `jets` has a bit
-abbrev Agree : ℕ → ℕ → ℕ → Type 0
-Agree jets a b = (j : ℕ) → bit j jets ≡ true → bit j a ≡ bit j b
-
-cut-bit : (m a b : Bool) → (m ≡ true → a ≡ b) → (m && a) ≡ (m && b)
-cut-bit true a b e = e refl
-cut-bit false a b e = refl
-
-cut-same : (jets a b : ℕ) → Agree jets a b → bitAnd jets a ≡ bitAnd jets b
-cut-same jets a b e =
-    words-same (bitAnd jets a) (bitAnd jets b)
-    (λ j. bit-and j jets a ∙ cut-bit (bit j jets) (bit j a) (bit j b) (e j) ∙ sym (bit-and j jets b))
-
-without-bit : (m a b c d : Bool) → (m ≡ true → a ≡ b) → (m ≡ true → c ≡ d) → ((m && a) && not c) ≡ ((m && b) && not d)
-without-bit true a b c d e f = ap₂ (λ (x y : Bool). x && not y) (e refl) (f refl)
-without-bit false a b c d e f = refl
-
--- what is left of a word cut down, less another word
-less-same : (jets a b c d : ℕ) → Agree jets a b → Agree jets c d → without (bitAnd jets a) c ≡ without (bitAnd jets b) d
-less-same jets a b c d e f = words-same (without (bitAnd jets a) c) (without (bitAnd jets b) d)
-    (λ j.
-    bit-without j (bitAnd jets a) c
-    ∙ ap (λ (x : Bool). x && not (bit j c)) (bit-and j jets a)
-    ∙ without-bit (bit j jets) (bit j a) (bit j b) (bit j c) (bit j d) (e j) (f j)
-    ∙ ap (λ (x : Bool). x && not (bit j d)) (sym (bit-and j jets b))
-    ∙ sym (bit-without j (bitAnd jets b) d))
-
--- step 3, by its newest slot
-abbrev offNewest : ℕ → StringState → StringState
-offNewest newest s =
-    let x : OffSlots = record { newest = newest; older = s .off .newest; oldest = s .off .older } in
-    withOff x (withFail (offFails x s) s)
-
--- ---- a string's cycle
-
--- what two records say of one string's mapped jets
-pub record AlikeString (masks : List ℕ) (x y : Sample) (p q : Requests) (t u : Temperatures) : Type 0 where
-  pub valves : x .valves ≡ y .valves
-  pub commanded : Agree (mapped manifoldCount masks) (x .commanded) (y .commanded)
-  pub pressure : Agree (mapped manifoldCount masks) (x .pressure) (y .pressure)
-  pub driver : Agree (mapped manifoldCount masks) (x .driver) (y .driver)
-  pub inhibit : Agree (mapped manifoldCount masks) (p .inhibit) (q .inhibit)
-  pub reenable : Agree (mapped manifoldCount masks) (p .reenable) (q .reenable)
-  pub leak : Agree (mapped manifoldCount masks) (leakWord t) (leakWord u)
-
-module _ (masks : List ℕ) (x y : Sample) (p q : Requests) (t u : Temperatures) (alike : AlikeString masks x y p q t u) where
-  abbrev jets : ℕ
-  jets = mapped manifoldCount masks
-
-  off-same : (s : StringState)
-      → offFailure (bitAnd jets (x .commanded)) (x .pressure) s ≡ offFailure (bitAnd jets (y .commanded)) (y .pressure) s
-  unfolding offFailure
-  off-same s =
-      ap (λ (newest : ℕ). offNewest newest s)
-      (less-same jets (x .commanded) (y .commanded) (x .pressure) (y .pressure) (alike .commanded) (alike .pressure))
-
-  minor-steps-same : (gap missed : Bool) (s : StringState)
-      → minorSteps manifoldCount masks x gap missed s ≡ minorSteps manifoldCount masks y gap missed s
-  unfolding minorSteps
-  minor-steps-same gap missed s =
-      ap₂ (λ (v : ℕ) (z : StringState). manifolds manifoldCount masks v z) (alike .valves) (off-same (gapped gap missed (recovered s)))
-
-  pub minor-cycle-same : (path way : Bool) → path ≡ way → (gap missed : Bool) (s : StringState)
-      → minorCycle manifoldCount masks path x gap missed s ≡ minorCycle manifoldCount masks way y gap missed s
-  unfolding minorCycle
-  minor-cycle-same path way e gap missed s =
-      ap₂ (λ (b : Bool) (z : StringState). cond b (pathLost s) z) e (minor-steps-same gap missed s)
-
-  bad-same : badOf manifoldCount masks x (leakWord t) ≡ badOf manifoldCount masks y (leakWord u)
-  unfolding badJets
-  bad-same =
-      less-same jets (bitOr (x .driver) (leakWord t)) (bitOr (y .driver) (leakWord u)) (x .commanded) (y .commanded)
-      (λ j l.
-      bit-or j (x .driver) (leakWord t)
-      ∙ ap₂ (λ (a b : Bool). a || b) (alike .driver j l) (alike .leak j l)
-      ∙ sym (bit-or j (y .driver) (leakWord u)))
-      (alike .commanded)
-
-  major-steps-same : (s : StringState) → majorSteps manifoldCount masks x (leakWord t) p s ≡ majorSteps manifoldCount masks y (leakWord u) q s
-  unfolding majorSteps
-  major-steps-same s =
-      ap₂ (λ (bad : ℕ) (z : StringState). kept (onFailure bad (rechecked manifoldCount masks bad z))) bad-same
-      (ap₂ (λ (a b : ℕ). requested a b s) (cut-same jets (p .inhibit) (q .inhibit) (alike .inhibit))
-      (cut-same jets (p .reenable) (q .reenable) (alike .reenable)))
-
-  pub major-cycle-same : (path way : Bool) → path ≡ way → (s : StringState)
-      → majorCycle manifoldCount masks path x t p s ≡ majorCycle manifoldCount masks way y u q s
-  unfolding majorCycle
-  major-cycle-same path way e s = ap₂ (λ (b : Bool) (z : StringState). cond b s z) e (major-steps-same s)
-
--- ---- the hall's
+-- ---- string by string
 
 -- what the record says of a string: a minor one says nothing of requests and temperatures
 abbrev requestsOf : Record → ℕ → Requests

@@ -1,5 +1,5 @@
 -- Each step of a string's cycle keeps its words without the bit of a jet that stands in no mask. Assumes nothing.
-use mathlib.Core.Path.{_≡_, refl, sym, ap, _∙_}
+use mathlib.Core.Path.{_≡_, refl, ap, _∙_}
 use mathlib.Core.Bool.{Bool, true, false, not, cond, _&&_, _||_}
 use mathlib.Core.List.{List, [], _∷_}
 use Prim.Native.Nat.{ℕ, zero, suc, _<_, _≤_}
@@ -7,22 +7,17 @@ use mathlib.Core.Logic.{_⊎_, inl, inr, ⊎-elim}
 use native.Mathlib.Nat.{le-refl}
 use native.Mathlib.Omega.{arith}
 use lib.Bits.{bitAnd, bitOr}
-use lib.ListN.{getD, set, replicate}
+use lib.ListN.{getD, set}
 use Rattle.bits.specs.Bit.{bit, without}
-use Rattle.bits.proofs.Yes.{or-false, and-false}
 use Rattle.bits.proofs.Bits.{bit-and, bit-or, bit-without, bit-none}
-use Rattle.cycle.specs.Size.{stringCount, manifoldCount}
-use Rattle.cycle.specs.Map.{masksOf, mapped, inMask}
-use Rattle.cycle.specs.Words.{Passed, handled, atManifold, manifold, passed, manifolds, noOff, noOn, offCleared, fresh, freshStanding}
-use Rattle.cycle.specs.Words.{withStanding, withOff, withOn, withLost, pathLost, recovered, gapped, offFailure, requested, rechecked}
-use Rattle.cycle.specs.Words.{badJets, onFailure, kept, leakWord, minorSteps, afterRequests, badOf, majorSteps, minorCycle, majorCycle}
-use Rattle.cycle.specs.Unmapped.{Unmapped, NoneStanding, NoneOf, UnmappedNone}
-use Rattle.cycle.specs.declared.string.Standing.{Standing}
+use Rattle.cycle.specs.Map.{mapped}
+use Rattle.cycle.specs.Words.{Passed, handled, atManifold, manifold, passed, manifolds, noOff, noOn, offCleared}
+use Rattle.cycle.specs.Words.{withStanding, withOff, withOn, withLost, recovered, gapped, offFailure, requested, rechecked}
+use Rattle.cycle.specs.Words.{badJets, onFailure, kept, minorSteps, badOf, majorSteps}
+use Rattle.cycle.specs.Unmapped.{NoneOf}
 use Rattle.cycle.specs.declared.string.StringState.{StringState}
 use Rattle.cycle.specs.declared.values.Sample.{Sample}
-use Rattle.cycle.specs.declared.values.Temperatures.{Temperatures}
 use Rattle.cycle.specs.declared.values.Requests.{Requests}
-use Rattle.cycle.proofs.Maps.{mapped-found}
 
 -- ---- words without the jet's bit
 

@@ -1,6 +1,6 @@
 -- 01, "Jets, strings, manifolds": "Bits and temperatures of jets in no mask are ignored everywhere". Assumes nothing.
 use mathlib.Core.Path.{_≡_}
-use mathlib.Core.Bool.{Bool, false}
+use mathlib.Core.Bool.{false}
 use mathlib.Core.List.{List, []}
 use Prim.Native.Nat.{ℕ, _<_}
 use lib.ListN.{getD}

@@ -13,11 +13,11 @@ use Rattle.cycle.specs.Size.{stringCount, jetCount, manifoldCount}
 use Rattle.cycle.specs.Answers.{isTaken}
 use Rattle.cycle.specs.Jets.{JetRecord, cycle, asksAt}
 use Rattle.cycle.specs.Map.{noMasks, masksOf, inMask, FitMap, refused}
-use Rattle.cycle.specs.Hall.{stringOf, freshHall, started, stepped}
+use Rattle.cycle.specs.Hall.{stringOf, started, stepped}
 use Rattle.cycle.specs.Views.{jetOf, jetRecord}
 use Rattle.cycle.specs.Proper.{ProperHall}
 use Rattle.cycle.specs.Unmapped.{UnmappedNone}
-use Rattle.cycle.specs.declared.answer.Answer.the-variants.{Taken, OutboxShort}
+use Rattle.cycle.specs.declared.answer.Answer.the-variants.{Taken}
 use Rattle.cycle.specs.declared.hall.Hall.{Hall}
 use Rattle.cycle.specs.declared.hall.Stepped.{Stepped}
 use Rattle.cycle.specs.declared.map.Masks.{Masks}

@@ -6,7 +6,7 @@ use mathlib.Core.List.{List, [], _∷_, _++_, append-assoc, append-nil}
 use mathlib.Core.Logic.{_⊎_, inl, inr}
 use Prim.Native.Nat.{ℕ, _+_, _-_, _<_, _≤_}
 use native.Mathlib.Omega.{arith}
-use lib.ListN.{length, getD, take, drop, length-append, length-drop, take-append-drop, List·getD-append}
+use lib.ListN.{length, getD, take, drop, length-append, take-append-drop, List·getD-append}
 use lib.Seq.{drop-at, take-at, drop-append-add, length-take-le}
 use Rattle.cycle.specs.Answers.{writesReport}
 use Rattle.cycle.specs.declared.answer.Answer.{Answer}
@@ -19,7 +19,7 @@ use Rattle.feed.specs.Format.{look}
 use Rattle.feed.specs.Good.{WholeRecord}
 use Rattle.feed.specs.Settled.{recordIn}
 use Rattle.feed.specs.Answered.{Condition, Waiting, empty, begun, minor, major, Read}
-use Rattle.feed.specs.Call.{holds, holding, startedOver, call}
+use Rattle.feed.specs.Call.{holds, startedOver}
 use Rattle.feed.specs.Calls.{Made, monitorAfter, resultOf, answerOf, Hands, starts, calls, Finished}
 use Rattle.feed.specs.SettledAt.{usedBy, SettledAt, now, earlier, Alone}
 use Rattle.feed.specs.declared.call.Monitor.{Monitor}
