@@ -1,31 +1,38 @@
 // Plays scripts of single calls, so that nights and comparisons run at the level of calls and see all that a call gives back. It is a
 // tool for tests: a user's program hands on whole pieces. Numbers have the high byte first.
 //
-// Standard input has any number of scripts, one after the other. A script: 64 mask bytes; the state handed in, which is n (4 bytes), the
-// claimed count of held bytes (2) and the store (615); the number of calls (2); and for each call the piece's length (2, at most 4,096),
-// the piece, the outbox's length (1) and its contents.
+// Standard input has any number of scripts, one after the other. A script: its kind (1 byte); a hall (420, src/layout.rt has its places);
+// the claimed count of held bytes (2) and the store (615); the number of calls (2); and for each call the piece's length (2, at most
+// 4,096), the piece, the outbox's length (1) and its contents. Where the kind is 0, the calls begin with what the start over the hall's
+// masks gives, and of the hall's other values n alone is handed in. Any other kind hands in the whole hall as it stands.
 //
-// Standard output has for each script the number of the start's answer (1 byte), and for each call the answer's number (1), the bytes
-// used (2), the whole outbox, n (4), the low 16 bits of the count (2) and the whole store (615). At the end of its input, at a script
-// that breaks off and at a piece that is too long the program stops silently.
+// Standard output has for each script the number of the start's answer to the hall's masks (1 byte), whatever the kind, and for each call
+// the answer's number (1), the bytes used (2), the whole outbox, the whole hall (420), the low 16 bits of the count (2) and the whole store
+// (615). At the end of its input, at a script that breaks off and at a piece that is too long the program stops silently.
 ghost use mathlib.Core.Path.{_≡_};
 ghost use mathlib.Core.Bool.{true};
-ghost use mathlib.Core.List.{_∷_, _++_};
+ghost use mathlib.Core.List.{_∷_};
 ghost use Prim.Native.Nat.{_%_, _<_, _≤_};
 ghost use lib.ListN.{length};
 ghost use Rattle.cycle.specs.Answers.{numberOf};
-ghost use Rattle.feed.specs.Bytes.{two, four, inTwo, inFour};
+ghost use Rattle.feed.specs.Bytes.{two, inTwo};
 ghost use Rattle.feed.specs.Call.{call};
 ghost use Rattle.feed.specs.Masks.{startedFrom};
-ghost use Rattle.calls.specs.Handed.{handedIn, OneCall};
+ghost use Rattle.calls.specs.Handed.{masksGiven, handed, handedIn, OneCall};
+
+mod layout;
+
+use crate::layout::HALL;
+use crate::layout::MASKS_FROM;
+use crate::layout::STRINGS_FROM;
+use crate::layout::hall_bytes;
+use crate::layout::hall_in;
 use cycle::answer::Answer;
-use feed::bytes::put_four;
+use cycle::hall::Hall;
 use feed::bytes::put_two;
-use feed::bytes::read_four;
 use feed::bytes::read_two;
 use feed::call::Monitor;
 use feed::call::Outcome;
-use feed::size::MAP;
 use feed::size::STORE;
 use libc::STDIN_FILENO;
 use libc::STDOUT_FILENO;
@@ -38,8 +45,8 @@ const OUTBOX: usize = 255;
 // A script's header; `whole` says that all of it came.
 struct Header {
     whole: bool,
-    masks: [u8; MAP],
-    n: u32,
+    kind: u8,
+    hall: [u8; HALL],
     count: usize,
     held: [u8; STORE],
     calls: usize,
@@ -63,12 +70,6 @@ fn two_of(b: &[u8; 2]) -> usize
     read_two(b, 0) as usize
 }
 
-fn four_of(b: &[u8; 4]) -> u32
-    ensures { λ r. ⌜ r ≡ four (now (b .entry)) 0 ⌝ }
-{
-    read_four(b, 0)
-}
-
 // The low 16 bits.
 fn low_two(x: usize) -> u16
     ensures { λ r. ⌜ r ≡ x % 65536 ⌝ }
@@ -85,13 +86,12 @@ fn front(answer: Answer, used: usize) -> [u8; 3]
     b
 }
 
-// The cycle number and the low 16 bits of the count.
-fn numbers(n: u32, count: usize) -> [u8; 6]
-    ensures { λ r. ⌜ r ≡ inFour n ++ inTwo count ⌝ }
+// The low 16 bits of the count.
+fn count_bytes(count: usize) -> [u8; 2]
+    ensures { λ r. ⌜ r ≡ inTwo count ⌝ }
 {
-    let mut b = [0u8; 6];
-    put_four(&mut b[0..4], n);
-    put_two(&mut b[4..6], low_two(count));
+    let mut b = [0u8; 2];
+    put_two(&mut b[0..2], low_two(count));
     b
 }
 
@@ -110,38 +110,50 @@ fn came(buf: &mut [u8], n: usize) -> bool
 fn next_header() -> Header
     ensures { λ r. ⌜ (r .count < 65536) × (r .calls < 65536) ⌝ }
 {
-    let mut masks = [0u8; MAP];
-    let mut n = [0u8; 4];
+    let mut kind = [0u8; 1];
+    let mut hall = [0u8; HALL];
     let mut count = [0u8; 2];
     let mut held = [0u8; STORE];
     let mut calls = [0u8; 2];
-    let whole = came(&mut masks, MAP)
-        && came(&mut n, 4)
+    let whole = came(&mut kind, 1)
+        && came(&mut hall, HALL)
         && came(&mut count, 2)
         && came(&mut held, STORE)
         && came(&mut calls, 2);
     Header {
         whole: whole,
-        masks: masks,
-        n: four_of(&n),
+        kind: kind[0],
+        hall: hall,
         count: two_of(&count),
         held: held,
         calls: two_of(&calls),
     }
 }
 
+// The hall that is handed in: by kind 0 the started one, but for its cycle number.
+fn handed(kind: u8, started: Hall, given: Hall) -> Hall
+    ensures { λ r. ⌜ r ≡ handed kind started given ⌝ }
+{
+    if kind != 0 {
+        return given;
+    }
+    let mut hall = started;
+    hall.n = given.n;
+    hall
+}
+
 // The start over the header's masks, and its state handed in.
 fn started(h: Header) -> Outcome
-    ensures { λ r. ⌜ r .answer ≡ startedFrom (h .masks) .answer ⌝ }
-    ensures { λ r. ⌜ r .monitor ≡ handedIn (startedFrom (h .masks) .monitor .hall) (h .n) (h .held) (h .count) ⌝ }
+    ensures { λ r. ⌜ r .answer ≡ startedFrom (masksGiven (h .hall)) .answer ⌝ }
+    ensures { λ r. ⌜ r .monitor ≡ handedIn (h .kind) (h .hall) (h .held) (h .count) ⌝ }
 {
-    let masks = h.masks;
+    let given = h.hall;
     let held = h.held;
-    let start = Monitor::start_from(&masks);
+    let start = Monitor::start_from(&given[MASKS_FROM..STRINGS_FROM]);
     let answer = start.answer;
     let fresh = start.monitor;
-    let mut hall = fresh.hall;
-    hall.n = h.n;
+    let begun = fresh.hall;
+    let hall = handed(h.kind, begun, hall_in(&given));
     let monitor = Monitor {
         hall: hall,
         held: held,
@@ -164,7 +176,8 @@ fn said(o: Outcome, outbox: &[u8]) -> Step
     let held = monitor.held;
     let going = io::write_all(STDOUT_FILENO, &front(answer, o.used))
         && io::write_all(STDOUT_FILENO, outbox)
-        && io::write_all(STDOUT_FILENO, &numbers(hall.n, monitor.count))
+        && io::write_all(STDOUT_FILENO, &hall_bytes(hall))
+        && io::write_all(STDOUT_FILENO, &count_bytes(monitor.count))
         && io::write_all(STDOUT_FILENO, &held);
     Step {
         going: going,

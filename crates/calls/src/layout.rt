@@ -1,0 +1,316 @@
+// A whole hall in 420 bytes: the fields in the order of the structs that declare them, each at its full width, the high byte first. A yes
+// or no is one byte, written as 1 or 0; any byte but 0 is read as yes.
+//
+// n (4); for each string its masks (4 words); for each string 85 bytes: standing and good copy (each the fail word, the valves and four
+// saved sets), off slots (newest, older, oldest), on slots (newest, older) and recheck word, inhibits, re-enables and close word, and
+// whether its path is lost; for each module whether it is out of balance, whether the oxidizer is the lesser, and the lesser quantity (2).
+ghost use mathlib.Core.Path.{_≡_};
+ghost use mathlib.Core.List.{List};
+ghost use Prim.Native.Nat.{_+_, _*_, _<_, _≤_};
+ghost use lib.ListN.{length, getD};
+ghost use Rattle.cycle.specs.Size.{manifoldCount, stringCount, moduleCount};
+ghost use Rattle.feed.specs.Size.{wordLength, masksLength, mapLength};
+ghost use Rattle.calls.specs.Layout.{stringLength, bankLength, hallLength};
+ghost use Rattle.calls.specs.Layout.{flagIn, wordIn, perManifold, standingIn, stringIn, masksIn, bankIn, hallIn};
+ghost use Rattle.calls.specs.Layout.{inFlag, inWords, stringWordsOf, inString, inBank, inMap, inStrings, inBanks, inHall};
+use cycle::banks::Bank;
+use cycle::hall::Hall;
+use cycle::map::Masks;
+use cycle::size::MANIFOLDS;
+use cycle::size::MODULES;
+use cycle::size::STRINGS;
+use cycle::string::OffSlots;
+use cycle::string::OnSlots;
+use cycle::string::Overrides;
+use cycle::string::Standing;
+use cycle::string::StringState;
+use feed::bytes::put_four;
+use feed::bytes::put_two;
+use feed::bytes::read_four;
+use feed::bytes::read_two;
+use feed::size::MAP;
+use feed::size::MASKS_LENGTH;
+use feed::size::QUANTITY_LENGTH;
+use feed::size::WORD_LENGTH;
+
+// Lengths and places; specs/Layout says the same.
+const STANDING_WORDS: usize = 2 + MANIFOLDS;
+
+const STRING_WORDS: usize = 2 * STANDING_WORDS + 3 + 3 + 2 + 1;
+
+const WORDS_LENGTH: usize = WORD_LENGTH * STRING_WORDS;
+
+const STRING_LENGTH: usize = WORDS_LENGTH + 1;
+
+const BANK_LENGTH: usize = 2 + QUANTITY_LENGTH;
+
+pub(crate) const MASKS_FROM: usize = WORD_LENGTH;
+
+pub(crate) const STRINGS_FROM: usize = MASKS_FROM + MAP;
+
+const BANKS_FROM: usize = STRINGS_FROM + STRING_LENGTH * STRINGS;
+
+pub(crate) const HALL: usize = BANKS_FROM + BANK_LENGTH * MODULES;
+
+fn flag_in(b: &[u8], i: usize) -> bool
+    requires { ⌜ i < length (now b) ⌝ }
+    ensures { λ r. ⌜ r ≡ flagIn (now (b .entry)) i ⌝ }
+{
+    b[i] != 0
+}
+
+// The k-th word of the part that begins at place i.
+fn word_in(b: &[u8], i: usize, k: usize) -> u32
+    requires { ⌜ (i ≤ length (now b)) × (k < 256) × (length (now b) < 65536) ⌝ }
+    ensures { λ r. ⌜ r ≡ wordIn (now (b .entry)) i k ⌝ }
+{
+    read_four(b, i + WORD_LENGTH * k)
+}
+
+// Four words from the k-th on, one for each manifold.
+fn per_manifold(b: &[u8], i: usize, k: usize) -> [u32; MANIFOLDS]
+    requires { ⌜ (i ≤ length (now b)) × (k < 250) × (length (now b) < 65536) ⌝ }
+    ensures { λ r. ⌜ r ≡ perManifold (now (b .entry)) i k ⌝ }
+{
+    [
+        word_in(b, i, k),
+        word_in(b, i, k + 1),
+        word_in(b, i, k + 2),
+        word_in(b, i, k + 3),
+    ]
+}
+
+// A standing from the k-th word on.
+fn standing_in(b: &[u8], i: usize, k: usize) -> Standing
+    requires { ⌜ (i ≤ length (now b)) × (k < 200) × (length (now b) < 65536) ⌝ }
+    ensures { λ r. ⌜ r ≡ standingIn (now (b .entry)) i k ⌝ }
+{
+    let saved = per_manifold(b, i, k + 2);
+    Standing {
+        fail: word_in(b, i, k),
+        valves: word_in(b, i, k + 1),
+        saved: saved,
+    }
+}
+
+fn string_in(b: &[u8], i: usize) -> StringState
+    requires { ⌜ (i + stringLength ≤ length (now b)) × (length (now b) < 65536) ⌝ }
+    ensures { λ r. ⌜ r ≡ stringIn (now (b .entry)) i ⌝ }
+{
+    let standing = standing_in(b, i, 0);
+    let good = standing_in(b, i, STANDING_WORDS);
+    let off = OffSlots {
+        newest: word_in(b, i, 12),
+        older: word_in(b, i, 13),
+        oldest: word_in(b, i, 14),
+    };
+    let on = OnSlots {
+        newest: word_in(b, i, 15),
+        older: word_in(b, i, 16),
+        recheck: word_in(b, i, 17),
+    };
+    let over = Overrides {
+        inhibit: word_in(b, i, 18),
+        reenable: word_in(b, i, 19),
+    };
+    StringState {
+        standing: standing,
+        good: good,
+        off: off,
+        on: on,
+        over: over,
+        close: word_in(b, i, 20),
+        lost: flag_in(b, i + WORDS_LENGTH),
+    }
+}
+
+fn masks_in(b: &[u8], i: usize) -> Masks
+    requires { ⌜ (i ≤ length (now b)) × (length (now b) < 65536) ⌝ }
+    ensures { λ r. ⌜ r ≡ masksIn (now (b .entry)) i ⌝ }
+{
+    let words = per_manifold(b, i, 0);
+    Masks { words: words }
+}
+
+fn bank_in(b: &[u8], i: usize) -> Bank
+    requires { ⌜ (i + bankLength ≤ length (now b)) × (length (now b) < 65536) ⌝ }
+    ensures { λ r. ⌜ r ≡ bankIn (now (b .entry)) i ⌝ }
+{
+    Bank {
+        unbalanced: flag_in(b, i),
+        oxidizer: flag_in(b, i + 1),
+        lesser: read_two(b, i + 2),
+    }
+}
+
+// The hall that 420 bytes give.
+pub(crate) fn hall_in(b: &[u8; HALL]) -> Hall
+    ensures { λ r. ⌜ r ≡ hallIn (now (b .entry)) ⌝ }
+{
+    let masks = [
+        masks_in(b, MASKS_FROM),
+        masks_in(b, MASKS_FROM + MASKS_LENGTH),
+        masks_in(b, MASKS_FROM + MASKS_LENGTH * 2),
+        masks_in(b, MASKS_FROM + MASKS_LENGTH * 3),
+    ];
+    let strings = [
+        string_in(b, STRINGS_FROM),
+        string_in(b, STRINGS_FROM + STRING_LENGTH),
+        string_in(b, STRINGS_FROM + STRING_LENGTH * 2),
+        string_in(b, STRINGS_FROM + STRING_LENGTH * 3),
+    ];
+    let banks = [
+        bank_in(b, BANKS_FROM),
+        bank_in(b, BANKS_FROM + BANK_LENGTH),
+        bank_in(b, BANKS_FROM + BANK_LENGTH * 2),
+    ];
+    Hall {
+        n: read_four(b, 0),
+        masks: masks,
+        strings: strings,
+        banks: banks,
+    }
+}
+
+fn flag(x: bool) -> u8
+    ensures { λ r. ⌜ r ≡ inFlag x ⌝ }
+{
+    if x { 1 } else { 0 }
+}
+
+// The words, one behind the other.
+fn put_words(b: &mut [u8], words: &[u32])
+    requires { ⌜ (length (now b) ≡ wordLength * length (now words)) × (length (now b) < 65536) ⌝ }
+    ensures { λ r. ⌜ now (b .exit) ≡ inWords (length (now (words .entry))) (now (words .entry)) ⌝ }
+{
+    let mut k: usize = 0;
+    while k < words.len() {
+        let a = WORD_LENGTH * k;
+        put_four(&mut b[a..a + WORD_LENGTH], words[k]);
+        k += 1;
+    }
+}
+
+// The words of a string.
+fn string_words(x: StringState) -> [u32; STRING_WORDS]
+    ensures { λ r. ⌜ r ≡ stringWordsOf x ⌝ }
+{
+    let standing = x.standing;
+    let good = x.good;
+    let saved = standing.saved;
+    let kept = good.saved;
+    let off = x.off;
+    let on = x.on;
+    let over = x.over;
+    [
+        standing.fail,
+        standing.valves,
+        saved[0],
+        saved[1],
+        saved[2],
+        saved[3],
+        good.fail,
+        good.valves,
+        kept[0],
+        kept[1],
+        kept[2],
+        kept[3],
+        off.newest,
+        off.older,
+        off.oldest,
+        on.newest,
+        on.older,
+        on.recheck,
+        over.inhibit,
+        over.reenable,
+        x.close,
+    ]
+}
+
+fn put_string(b: &mut [u8], x: StringState)
+    requires { ⌜ length (now b) ≡ stringLength ⌝ }
+    ensures { λ r. ⌜ now (b .exit) ≡ inString x ⌝ }
+{
+    let words = string_words(x);
+    put_words(&mut b[0..WORDS_LENGTH], &words);
+    b[WORDS_LENGTH] = flag(x.lost);
+}
+
+fn put_masks(b: &mut [u8], m: Masks)
+    requires { ⌜ length (now b) ≡ masksLength ⌝ }
+    ensures { λ r. ⌜ now (b .exit) ≡ inWords manifoldCount (m .words) ⌝ }
+{
+    let words = m.words;
+    put_words(b, &words);
+}
+
+fn put_bank(b: &mut [u8], x: Bank)
+    requires { ⌜ length (now b) ≡ bankLength ⌝ }
+    ensures { λ r. ⌜ now (b .exit) ≡ inBank x ⌝ }
+{
+    b[0] = flag(x.unbalanced);
+    b[1] = flag(x.oxidizer);
+    put_two(&mut b[2..BANK_LENGTH], x.lesser);
+}
+
+// The masks of all strings.
+fn put_map(b: &mut [u8], masks: [Masks; STRINGS])
+    requires { ⌜ length (now b) ≡ mapLength ⌝ }
+    ensures { λ r. ⌜ now (b .exit) ≡ inMap masks ⌝ }
+{
+    let mut s: usize = 0;
+    while s < STRINGS {
+        let a = MASKS_LENGTH * s;
+        let m = masks[s];
+        put_masks(&mut b[a..a + MASKS_LENGTH], m);
+        s += 1;
+    }
+}
+
+fn put_strings(b: &mut [u8], strings: [StringState; STRINGS])
+    requires { ⌜ length (now b) ≡ stringLength * stringCount ⌝ }
+    ensures { λ r. ⌜ now (b .exit) ≡ inStrings strings ⌝ }
+{
+    let mut s: usize = 0;
+    while s < STRINGS {
+        let a = STRING_LENGTH * s;
+        let x = strings[s];
+        put_string(&mut b[a..a + STRING_LENGTH], x);
+        s += 1;
+    }
+}
+
+fn put_banks(b: &mut [u8], banks: [Bank; MODULES])
+    requires { ⌜ length (now b) ≡ bankLength * moduleCount ⌝ }
+    ensures { λ r. ⌜ now (b .exit) ≡ inBanks banks ⌝ }
+{
+    let mut m: usize = 0;
+    while m < MODULES {
+        let a = BANK_LENGTH * m;
+        let x = banks[m];
+        put_bank(&mut b[a..a + BANK_LENGTH], x);
+        m += 1;
+    }
+}
+
+fn put_hall(b: &mut [u8], h: Hall)
+    requires { ⌜ length (now b) ≡ hallLength ⌝ }
+    ensures { λ r. ⌜ now (b .exit) ≡ inHall h ⌝ }
+{
+    let masks = h.masks;
+    let strings = h.strings;
+    let banks = h.banks;
+    put_four(&mut b[0..MASKS_FROM], h.n);
+    put_map(&mut b[MASKS_FROM..STRINGS_FROM], masks);
+    put_strings(&mut b[STRINGS_FROM..BANKS_FROM], strings);
+    put_banks(&mut b[BANKS_FROM..HALL], banks);
+}
+
+// The bytes of a hall.
+pub(crate) fn hall_bytes(h: Hall) -> [u8; HALL]
+    ensures { λ r. ⌜ r ≡ inHall h ⌝ }
+{
+    let mut b = [0u8; HALL];
+    put_hall(&mut b[..], h);
+    b
+}
