@@ -1,9 +1,12 @@
 #!/usr/bin/env python3
-"""calls-nights.py > crates/calls/stdin: the nights to try of document 01 that are run and not proved, as scripts for the program `calls`.
+"""calls-nights.py > crates/calls/stdin: the nights to try of document 01 that are run and not proved, as scripts for the program `calls`,
+and three that hand in whole halls which no run reaches.
 
-A script is 64 mask bytes, n (4 bytes), the claimed held count (2), the store (615), the number of calls (2), and for each call the
-piece's length (2), the piece, the outbox's length (1) and its contents. Numbers have the high byte first.
+A script is its kind (0: a start over the hall's masks, with its n; 1: the hall as it stands), a hall (420 bytes, crates/calls/src/layout.rt
+has its places), the claimed held count (2), the store (615), the number of calls (2), and for each call the piece's length (2), the
+piece, the outbox's length (1) and its contents. Numbers have the high byte first.
 crates/calls/stdout is what the reference says to it: tests/reference, `ref_calls < crates/calls/stdin`. It is never made by `calls`."""
+import struct
 import sys
 
 import records
@@ -27,10 +30,26 @@ def outbox(length):
     return bytes(0xC0 + place % 64 for place in range(length))
 
 
-def script(calls, masks=MAP, n=0, count=0, store=bytes(STORE)):
-    out = masks + n.to_bytes(4, "big") + count.to_bytes(2, "big") + store + len(calls).to_bytes(2, "big")
+def standing(fail=0, valves=ALL_OPEN, saved=(0, 0, 0, 0)):
+    return struct.pack(">6I", fail, valves, *saved)
+
+
+def string(now=standing(), good=standing(), off=(0, 0, 0), on=(0, 0), recheck=0, inhibit=0, reenable=0, close=0, lost=0):
+    """Off and on slots: the newest first."""
+    return now + good + struct.pack(">9IB", *off, *on, recheck, inhibit, reenable, close, lost)
+
+
+def hall(masks=MAP, n=0, strings={}, banks=bytes(12)):
+    """strings: {string: bytes}; those not given are fresh."""
+    return struct.pack(">I", n) + masks + b"".join(strings.get(s, string()) for s in range(records.STRINGS)) + banks
+
+
+def script(calls, masks=MAP, n=0, count=0, store=bytes(STORE), whole=None):
+    """Without a whole hall, a start over the masks."""
+    handed = b"\0" + hall(masks, n) if whole is None else b"\1" + whole
+    out = handed + struct.pack(">H", count) + store + struct.pack(">H", len(calls))
     for piece, length in calls:
-        out += len(piece).to_bytes(2, "big") + piece + bytes([length]) + outbox(length)
+        out += struct.pack(">H", len(piece)) + piece + bytes([length]) + outbox(length)
     return out
 
 
@@ -64,5 +83,37 @@ nights = [
     script([(minor(1, 1), 34), (minor(2, 1), 34), (minor(3, 1), 34)], masks=REFUSED),
     # An outbox longer than 34 bytes keeps those after the 34th.
     script([(minor(1), 40), (minor(2), 255)]),
+    # A hall handed in whose manifold 0 is remembered closed and has a saved set beyond its mask: all of it leaves the fail word, and the set
+    # stays. Jets 16 and 17 are in no mask: the report does not show them, the hall does.
+    script([(minor(1), 34), (minor(2), 34)], whole=hall(strings={0: string(standing(0x0003001F, 0xFFFFFFFE, (0x00010013, 0, 0, 0)))})),
+    # Masks that overlap, lowest first: manifold 0 closes and saves jets 0 and 1, then 1 opens, and its saved jets 1 and 2 leave the fail
+    # word again. A start over these masks answers 6. In string 1 a lost path: the good copy comes back, close bits stay, the high ones too.
+    script(
+        [(records.minor(1, strings={0: (0, 0, 0, 0b1110)}), 34)],
+        whole=hall(
+            map_bytes([[0x3, 0x6, 0, 0], [0xF0, 0, 0, 0], [0] * 4, [0] * 4]),
+            strings={
+                0: string(standing(0, 0b1101, (0x80, 0x6, 0, 0))),
+                1: string(standing(0x10, 0, (1, 2, 3, 4)), standing(0x60, 0xF0F, (5, 6, 7, 8)), (1, 2, 3), (4, 5), 6, 7, 8, 0xABCD1230, 9),
+            },
+        ),
+    ),
+    # Just before a major cycle, any banks: jet 0 is inhibited and re-enabled at once, jet 1 bad again, jet 5 in no mask has every bit, and
+    # requests name jets 1, 5 and 6. The record after it is stale and changes nothing.
+    script(
+        [
+            (records.major(25, strings={0: (0, 0, 0x22, ALL_OPEN)}, requests={0: (0x42, 0x20)}, banks={0: (500, 483)}), 34),
+            (minor(1), 34),
+        ],
+        whole=hall(
+            n=24,
+            strings={
+                0: string(
+                    standing(0x20, ALL_OPEN, (0x20,) * 4), standing(), (0x20,) * 3, (0x22,) * 2, 0x22, 0x21, 0x21, close=0x100
+                )
+            },
+            banks=bytes.fromhex("01010FFF00010400FF02FFFF"),
+        ),
+    ),
 ]
 sys.stdout.buffer.write(b"".join(nights))

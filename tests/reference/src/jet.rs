@@ -1,10 +1,11 @@
 //! What is remembered of one jet.
 
-/// A jet named by a mask. Jets in no mask are ignored everywhere, so they have no `Jet`.
+/// A jet of a string. One that no mask names is ignored, but a state handed in may have anything of it.
 #[derive(Clone, Debug, Default, PartialEq, Eq)]
 pub struct Jet {
     pub number: usize,
-    pub manifold: usize,
+    /// The manifolds whose masks name it: one at most, unless a state is handed in with masks that overlap.
+    pub manifolds: [bool; 4],
 
     pub failed: bool,
     /// "C and not P" in the last three cycles, newest first.
@@ -14,11 +15,17 @@ pub struct Jet {
     pub recheck: bool,
     pub inhibited: bool,
     pub re_enabled: bool,
-    /// Stands in the saved set of its manifold.
-    pub saved: bool,
+    /// Stands in the saved set of each manifold. In a state handed in that may be any manifold's.
+    pub saved: [bool; 4],
 
     pub good_failed: bool,
-    pub good_saved: bool,
+    pub good_saved: [bool; 4],
+}
+
+impl Jet {
+    pub fn is_mapped(&self) -> bool {
+        self.manifolds.contains(&true)
+    }
 }
 
 /// Jet `number` is that bit of a word, bit 0 the lowest.

@@ -12,31 +12,36 @@ pub struct Gap {
 
 #[derive(Clone, Debug, PartialEq, Eq)]
 pub struct JetString {
-    jets: Vec<Jet>,
-    path_fault: bool,
-    open: [bool; 4],
-    good_open: [bool; 4],
-    close: [bool; 4],
+    /// All 32, jet 0 first.
+    pub jets: Vec<Jet>,
+    pub path_fault: bool,
+    /// Bit i: manifold i is remembered as open. The bits above name nothing.
+    pub valves: u32,
+    pub good_valves: u32,
+    /// Bit i: manifold i is to be closed. The bits above name nothing.
+    pub close: u32,
 }
 
 impl JetString {
-    /// The masks must not share a bit, so each jet has one manifold at most.
     pub fn fresh(masks: [u32; 4]) -> JetString {
-        let mut jets = Vec::new();
-        for number in 0..32 {
-            if let Some(manifold) = masks.iter().position(|mask| bit(*mask, number)) {
-                jets.push(Jet { number, manifold, ..Jet::default() });
-            }
-        }
-        JetString { jets, path_fault: false, open: [true; 4], good_open: [true; 4], close: [false; 4] }
+        let jet = |number| Jet { number, manifolds: masks.map(|mask| bit(mask, number)), ..Jet::default() };
+        let jets = (0..32).map(jet).collect();
+        JetString { jets, path_fault: false, valves: 0x0F, good_valves: 0x0F, close: 0 }
     }
 
-    pub fn fail_word(&self) -> u32 {
-        self.jets.iter().filter(|jet| jet.failed).map(|jet| 1 << jet.number).sum()
+    /// The word in which the bits of these jets are set.
+    pub fn word(&self, is_set: impl Fn(&Jet) -> bool) -> u32 {
+        self.jets.iter().filter(|jet| is_set(jet)).map(|jet| 1 << jet.number).sum()
     }
 
+    /// Bits of jets in no mask are 0 in reports.
+    pub fn reported_fail_word(&self) -> u32 {
+        self.word(|jet| jet.failed && jet.is_mapped())
+    }
+
+    /// The low byte of the close word.
     pub fn close_byte(&self) -> u8 {
-        (0..4).filter(|manifold| self.close[*manifold]).map(|manifold| 1 << manifold).sum()
+        (self.close % 256) as u8
     }
 
     pub fn cycle(&mut self, path_failed: bool, words: &StringWords, major: Option<&StringMajor>, gap: Gap) {
@@ -62,7 +67,7 @@ impl JetString {
     /// Step 1, the first record with the bit clear again. Overrides and close byte stay.
     fn path_recovers(&mut self) {
         self.path_fault = false;
-        self.open = self.good_open;
+        self.valves = self.good_valves;
         for jet in &mut self.jets {
             jet.failed = jet.good_failed;
             jet.saved = jet.good_saved;
@@ -88,7 +93,7 @@ impl JetString {
     /// Step 3.
     fn off_failure(&mut self, words: &StringWords) {
         for jet in &mut self.jets {
-            let newest = bit(words.commanded, jet.number) && !bit(words.pressure, jet.number);
+            let newest = commanded(jet, words) && !bit(words.pressure, jet.number);
             jet.off_slots = [newest, jet.off_slots[0], jet.off_slots[1]];
             if jet.off_slots == [true; 3] {
                 jet.failed = true;
@@ -99,30 +104,47 @@ impl JetString {
         }
     }
 
-    /// Step 4.
+    /// Step 4, lowest first: where masks overlap, a manifold sees what the lower ones left.
     fn manifolds(&mut self, words: &StringWords) {
+        let now = u32::from(words.valves);
         for manifold in 0..4 {
-            let open_now = bit(words.valves.into(), manifold);
-            for jet in self.jets.iter_mut().filter(|jet| jet.manifold == manifold) {
-                if self.open[manifold] && !open_now {
-                    jet.saved = !jet.failed;
-                    jet.failed = true;
-                    jet.re_enabled = false;
-                }
-                if !self.open[manifold] && open_now && jet.saved {
-                    jet.failed = false;
-                }
+            if bit(self.valves, manifold) && !bit(now, manifold) {
+                self.closes(manifold);
+            }
+            if !bit(self.valves, manifold) && bit(now, manifold) {
+                self.opens(manifold);
             }
         }
         for jet in self.jets.iter_mut().filter(|jet| jet.inhibited) {
             jet.failed = true;
         }
-        self.open = [0, 1, 2, 3].map(|manifold| bit(words.valves.into(), manifold));
+        self.valves = now;
     }
 
-    /// Step 5. A jet named both ways is not changed.
-    fn requests(&mut self, major: &StringMajor) {
+    /// The saved set is the manifold's jets not failed; all its jets fail; their re-enables lapse.
+    fn closes(&mut self, manifold: usize) {
         for jet in &mut self.jets {
+            let its_jet = jet.manifolds[manifold];
+            jet.saved[manifold] = its_jet && !jet.failed;
+            if its_jet {
+                jet.failed = true;
+                jet.re_enabled = false;
+            }
+        }
+    }
+
+    /// The saved set leaves the fail word: all of it, whatever the mask. It stays until the next closing.
+    fn opens(&mut self, manifold: usize) {
+        for jet in &mut self.jets {
+            if jet.saved[manifold] {
+                jet.failed = false;
+            }
+        }
+    }
+
+    /// Step 5. A jet named both ways is not changed, and requests for jets in no mask are ignored.
+    fn requests(&mut self, major: &StringMajor) {
+        for jet in self.jets.iter_mut().filter(|jet| jet.is_mapped()) {
             let inhibit = bit(major.inhibit, jet.number);
             let re_enable = bit(major.re_enable, jet.number);
             if inhibit && !re_enable {
@@ -140,9 +162,11 @@ impl JetString {
 
     /// Step 6. The close bit stays.
     fn recheck(&mut self, bad: &[bool]) {
-        for (jet, bad) in self.jets.iter().zip(bad) {
-            if jet.recheck && *bad && !jet.re_enabled {
-                self.close[jet.manifold] = true;
+        for manifold in 0..4 {
+            let found =
+                |(jet, bad): (&Jet, &bool)| jet.manifolds[manifold] && jet.recheck && *bad && !jet.re_enabled;
+            if self.jets.iter().zip(bad).any(found) {
+                self.close |= 1 << manifold;
             }
         }
     }
@@ -160,7 +184,7 @@ impl JetString {
 
     /// Step 8.
     fn take_good_copy(&mut self) {
-        self.good_open = self.open;
+        self.good_valves = self.valves;
         for jet in &mut self.jets {
             jet.good_failed = jet.failed;
             jet.good_saved = jet.saved;
@@ -168,8 +192,12 @@ impl JetString {
     }
 }
 
-/// A commanded jet is never bad.
+fn commanded(jet: &Jet, words: &StringWords) -> bool {
+    jet.is_mapped() && bit(words.commanded, jet.number)
+}
+
+/// A commanded jet is never bad; nor is one in no mask.
 fn is_bad(jet: &Jet, words: &StringWords, major: &StringMajor) -> bool {
     let driver_on = bit(words.driver, jet.number);
-    !bit(words.commanded, jet.number) && (driver_on || leaks(major.temperatures[jet.number]))
+    jet.is_mapped() && !commanded(jet, words) && (driver_on || leaks(major.temperatures[jet.number]))
 }

@@ -2,7 +2,7 @@
 //! and order. It is slow and obvious on purpose: it is what other builds are compared to.
 //!
 //! Lowest part first: `jet`, `jet_string`, `record`, `hall`, `reader`, `report`, `monitor`,
-//! `feed`. The other modules make input and run the programs that are compared.
+//! `feed`, `state`. The other modules make input and run the programs that are compared.
 
 pub mod feed;
 pub mod hall;
@@ -12,7 +12,9 @@ pub mod monitor;
 pub mod reader;
 pub mod record;
 pub mod report;
+pub mod state;
 
+pub mod foreign;
 pub mod generate;
 pub mod process;
 pub mod random;

@@ -24,7 +24,7 @@ impl Report {
         Report {
             answer,
             n: hall.n,
-            fail: [0, 1, 2, 3].map(|s| hall.strings[s].fail_word()),
+            fail: [0, 1, 2, 3].map(|s| hall.strings[s].reported_fail_word()),
             close: [0, 1, 2, 3].map(|s| hall.strings[s].close_byte()),
             balance,
             lesser: hall.modules.map(|module| module.lesser),

@@ -43,7 +43,9 @@ pub fn same(output: Result<Vec<u8>, String>, part: &str, wanted: &[Vec<u8>]) -> 
     for (number, want) in wanted.iter().enumerate() {
         let (got, after) = rest.split_at(want.len().min(rest.len()));
         if got != want {
-            return Err(format!("{part} {number} differs\n  got  {got:02x?}\n  want {want:02x?}"));
+            let at = got.iter().zip(want).take_while(|(got, want)| got == want).count();
+            let (got, want) = (shown(got, at), shown(want, at));
+            return Err(format!("{part} {number} differs from byte {at} on\n  got  {got}\n  want {want}"));
         }
         rest = after;
     }
@@ -51,4 +53,9 @@ pub fn same(output: Result<Vec<u8>, String>, part: &str, wanted: &[Vec<u8>]) -> 
         0 => Ok(()),
         length => Err(format!("{length} bytes more than wanted")),
     }
+}
+
+/// The bytes from a place on, as many as a line may have.
+fn shown(bytes: &[u8], at: usize) -> String {
+    format!("{:02x?}", &bytes[at..bytes.len().min(at + 34)])
 }

@@ -1,21 +1,28 @@
 //! Scripts for a program that makes single calls: any state handed in, then pieces and outboxes.
 //!
-//! A script has 64 mask bytes, n (4), the claimed count (2), the store (615), the number of calls
-//! (2), then for each call the piece's length (2, at most 4,096), the piece, the outbox's length
-//! (1) and its contents. An input is any number of scripts, one after the other. The program says
-//! for each the start's answer (1), then for each call: answer (1), bytes used (2), the outbox,
-//! n (4), the count (2) and the whole store (615), the places behind the held bytes included.
-//! Numbers have the high byte first. The program stops silently at the end of its input, at a
-//! script that is incomplete, or at a piece that is longer than 4,096.
+//! A script has its kind (1), a hall (420, see `state`), the claimed count (2), the store (615),
+//! the number of calls (2), then for each call the piece's length (2, at most 4,096), the piece,
+//! the outbox's length (1) and its contents. By kind 0 the calls begin with what the start over the
+//! hall's masks gives, but for the hall's n; by any other the whole hall is handed in as it stands.
+//! An input is any number of scripts, one after the other. The program says for each the start's
+//! answer to the hall's masks (1), whatever the kind, then for each call: answer (1), bytes used
+//! (2), the outbox, the hall (420), the count (2) and the whole store (615), the places behind the
+//! held bytes included. Numbers have the high byte first. The program stops silently at the end of
+//! its input, at a script that is incomplete, or at a piece that is longer than 4,096.
 
-use crate::feed::{masks_bytes, masks_from, MASKS_LENGTH};
+use crate::feed::masks_bytes;
 use crate::generate::Night;
 use crate::monitor::{Monitor, MOST_HELD, STORE_LENGTH};
 use crate::random::Random;
 use crate::record::{MAJOR, MARK};
+use crate::state::{hall_bytes, hall_from, masks_of, HALL_LENGTH};
 use crate::world::{masks, refused_masks};
 
-const STATE_LENGTH: usize = MASKS_LENGTH + 4 + 2 + STORE_LENGTH;
+/// The kinds of script.
+pub const FROM_START: u8 = 0;
+pub const WHOLE_HALL: u8 = 1;
+
+const STATE_LENGTH: usize = 1 + HALL_LENGTH + 2 + STORE_LENGTH;
 const LONGEST_PIECE: usize = 4_096;
 
 /// What the monitor says to an input: for each script the start, then call by call.
@@ -33,7 +40,7 @@ pub fn play(mut input: &[u8]) -> Vec<Vec<u8>> {
             let mut words = vec![answer];
             words.extend((used as u16).to_be_bytes());
             words.extend(outbox);
-            words.extend(monitor.hall.n.to_be_bytes());
+            words.extend(hall_bytes(&monitor.hall));
             words.extend(monitor.held.to_be_bytes());
             words.extend(monitor.store);
             said.push(words);
@@ -49,13 +56,20 @@ fn next_header<'a>(rest: &mut &'a [u8]) -> Option<(&'a [u8; STATE_LENGTH], u16)>
     Some((state, u16::from_be_bytes(*calls)))
 }
 
+/// The start's answer, and the monitor that the calls begin with.
 fn started(state: &[u8; STATE_LENGTH]) -> (u8, Monitor) {
-    let (masks, rest) = state.split_first_chunk().expect("64 bytes");
-    let (n, rest) = rest.split_first_chunk().expect("4 bytes");
+    let (kind, rest) = state.split_first().expect("1 byte");
+    let (hall, rest) = rest.split_first_chunk().expect("420 bytes");
     let (held, store) = rest.split_first_chunk().expect("2 bytes");
-    let (answer, mut monitor) = Monitor::start(masks_from(masks));
+    let held = u16::from_be_bytes(*held);
     let store = store.try_into().expect("615 bytes");
-    monitor.hand_in(u32::from_be_bytes(*n), u16::from_be_bytes(*held), store);
+    let hall = hall_from(hall);
+    let (answer, mut monitor) = Monitor::start(masks_of(&hall));
+    if *kind == FROM_START {
+        monitor.hand_in(hall.n, held, store);
+    } else {
+        monitor = Monitor { hall, held, store };
+    }
     (answer, monitor)
 }
 
@@ -114,26 +128,34 @@ fn script(random: &mut Random) -> Vec<u8> {
     }
     let (held, store, mut at) = handed_in(&feed, random);
 
-    let mut script = masks_bytes(&masks).to_vec();
-    script.extend(n.to_be_bytes());
-    script.extend(held.to_be_bytes());
-    script.extend(store);
+    // Nothing else of the hall is read.
+    let mut hall = random.bytes(HALL_LENGTH);
+    hall[..4].copy_from_slice(&n.to_be_bytes());
+    hall[4..68].copy_from_slice(&masks_bytes(&masks));
+    let mut script = state(FROM_START, &hall, held, &store);
     let (_, mut monitor) = started(script[..].try_into().expect("a state"));
     let calls = 20 + random.below(200) as u16;
     script.extend(calls.to_be_bytes());
     for _ in 0..calls {
         let piece = piece(&feed[at..], random);
         let mut outbox = outbox(random);
-        script.extend((piece.len() as u16).to_be_bytes());
-        script.extend(&piece);
-        script.push(outbox.len() as u8);
-        script.extend(&outbox);
+        script.extend(call(&piece, &outbox));
         let (_, used) = monitor.call(&piece, &mut outbox);
         // Now and then a careless caller drops what was not used, or sends it twice.
         let on = if random.one_in(60) { random.index(piece.len() + 1) } else { used };
         at = (at + on).min(feed.len());
     }
     script
+}
+
+/// The state that a script hands in.
+pub fn state(kind: u8, hall: &[u8], held: u16, store: &[u8]) -> Vec<u8> {
+    [&[kind], hall, &held.to_be_bytes(), store].concat()
+}
+
+/// One call of a script.
+pub fn call(piece: &[u8], outbox: &[u8]) -> Vec<u8> {
+    [&(piece.len() as u16).to_be_bytes(), piece, &[outbox.len() as u8], outbox].concat()
 }
 
 /// A claimed count, a store, and where in the feed the caller goes on.

@@ -124,13 +124,13 @@ impl StringWorld {
 }
 
 /// A temperature that does not leak, often just so.
-fn warm(random: &mut Random) -> u16 {
+pub fn warm(random: &mut Random) -> u16 {
     let any = 64 + random.below(65_536 - 64) as u16;
     random.pick(&[64, 65, 127, 0x4000, 0x8000, 0xFFC0, any, any, any, any])
 }
 
 /// Quantities often close to the border of 16 tenths, either way round.
-fn quantities(random: &mut Random) -> [u16; 2] {
+pub fn quantities(random: &mut Random) -> [u16; 2] {
     let one = random.below(1_001) as u16;
     let any = random.below(1_001) as u16;
     let near = (one + random.pick(&[0, 1, 15, 16, 17, 18])).min(1_000);

@@ -1,7 +1,8 @@
-//! `compare WATCH CALLS [--feeds N] [--bytes TOTAL]`: runs two programs over seeded input and
+//! `compare WATCH CALLS [--feeds N] [--bytes TOTAL] [--halls N]`: runs two programs over seeded input and
 //! demands every byte of their output to be the reference's.
 
 use reference::feed::{masks_bytes, run, MASKS_LENGTH};
+use reference::foreign::{self, Cases};
 use reference::generate::input;
 use reference::process::{run_pieces, Running};
 use reference::random::Random;
@@ -17,37 +18,40 @@ use std::time::{Duration, Instant};
 const LIMIT: Duration = Duration::from_secs(30);
 const CALL_INPUTS: u64 = 500;
 const NOISES: u64 = 24;
+const HALLS_AT_ONCE: u64 = 250;
 
 fn main() -> ExitCode {
     let mut arguments = std::env::args().skip(1);
-    let (Some(watch), Some(calls), Some((number, bytes))) =
+    let (Some(watch), Some(calls), Some((number, bytes, halls))) =
         (arguments.next(), arguments.next(), amounts(arguments))
     else {
-        eprintln!("usage: compare WATCH CALLS [--feeds N] [--bytes TOTAL]");
+        eprintln!("usage: compare WATCH CALLS [--feeds N] [--bytes TOTAL] [--halls N]");
         return ExitCode::FAILURE;
     };
     let begin = Instant::now();
     let mut score = Score::default();
     let tally = feeds(&watch, number, bytes, &mut score);
     let bad_inputs = bad_inputs(&watch, &mut score);
-    let calls = scripts(&calls, &mut score);
+    let answers = scripts(&calls, &mut score);
+    let cases = foreign_halls(&calls, halls, &mut score);
     let seconds = begin.elapsed().as_secs_f64();
-    println!("{tally:?}; {bad_inputs} inputs of noise or bad masks; {calls}; {seconds:.1} s");
+    println!("{tally:?}; {bad_inputs} inputs of noise or bad masks; {answers}; {cases:?}; {seconds:.1} s");
     score.end()
 }
 
-/// How many feeds, and how many bytes in all.
-fn amounts(mut options: impl Iterator<Item = String>) -> Option<(u64, u64)> {
-    let (mut feeds, mut bytes) = (320, 20_000_000);
+/// How many feeds, how many bytes of them in all, and how many foreign halls.
+fn amounts(mut options: impl Iterator<Item = String>) -> Option<(u64, u64, u64)> {
+    let (mut feeds, mut bytes, mut halls) = (320, 20_000_000, 20_000);
     while let Some(name) = options.next() {
         let place = match name.as_str() {
             "--feeds" => &mut feeds,
             "--bytes" => &mut bytes,
+            "--halls" => &mut halls,
             _ => return None,
         };
         *place = options.next()?.parse().ok()?;
     }
-    (feeds > 0).then_some((feeds, bytes))
+    (feeds > 0).then_some((feeds, bytes, halls))
 }
 
 /// Seeded nights, each whole from a file or a pipe, every third also in pieces.
@@ -111,8 +115,7 @@ fn scripts(calls: &str, score: &mut Score) -> String {
                 _ => answers[usize::from(words[0])] += 1,
             }
         }
-        let output = run_pieces(calls, vec![input], LIMIT);
-        score.check(&format!("calls of seed {seed}"), same(output, "start or call", &said));
+        score.check(&format!("calls of seed {seed}"), plays(calls, input));
     }
     let all: u64 = answers.iter().sum();
     format!(
@@ -120,6 +123,31 @@ fn scripts(calls: &str, score: &mut Score) -> String {
         &answers[..6],
         answers[255]
     )
+}
+
+/// Halls that no run reaches, many to an input. Where one differs, its input is tried hall by hall, to name it.
+fn foreign_halls(calls: &str, number: u64, score: &mut Score) -> Cases {
+    let mut cases = Cases::default();
+    let mut begin = 0;
+    while begin < number {
+        let end = number.min(begin + HALLS_AT_ONCE);
+        let scripts: Vec<Vec<u8>> = (begin..end).map(|seed| foreign::script(seed, &mut cases)).collect();
+        let all = plays(calls, scripts.concat());
+        if all.is_ok() {
+            score.check(&format!("halls of seeds {begin} to {end}"), all);
+        } else {
+            for (seed, script) in (begin..end).zip(scripts) {
+                score.check(&format!("hall of seed {seed}"), plays(calls, script));
+            }
+        }
+        begin = end;
+    }
+    cases
+}
+
+fn plays(calls: &str, input: Vec<u8>) -> Result<(), String> {
+    let said = script::play(&input);
+    same(run_pieces(calls, vec![input], LIMIT), "start or call", &said)
 }
 
 fn run_file(program: &str, input: &[u8]) -> Result<Vec<u8>, String> {
