@@ -192,7 +192,8 @@ fn hall(random: &mut Random) -> [u8; HALL_LENGTH] {
     let before_major = (any / 25 * 25).saturating_sub(1);
     let near_end = u32::MAX - random.below(60) as u32;
     let n = random.pick(&[any, any, before_major, before_major, before_major, near_end, 0, 24]);
-    let masks: Vec<[u32; 4]> = (0..4).map(|_| string_masks(random)).collect();
+    // One hall in four has a map that is not refused.
+    let masks = if random.one_in(4) { masks(random) } else { [(); 4].map(|_| string_masks(random)) };
     let mut bytes = n.to_be_bytes().to_vec();
     bytes.extend(masks.iter().flatten().flat_map(|mask| mask.to_be_bytes()));
     for masks in &masks {
@@ -237,12 +238,15 @@ fn flag(random: &mut Random) -> u8 {
     random.pick(&[0, 0, 0, 0, 0, 1, 1, 1, 255, any])
 }
 
-/// A record for the hall, now and then with junk before it.
+/// A record for the hall, now and then with junk before it, or broken off.
 fn next_piece(hall: &Hall, random: &mut Random) -> (Record, Vec<u8>) {
     let length = random.index(30);
     let mut piece = if random.one_in(8) { random.bytes(length) } else { Vec::new() };
     let record = record(hall, random);
     piece.extend(record.bytes());
+    if random.one_in(25) {
+        piece.truncate(random.index(piece.len()));
+    }
     (record, piece)
 }
 
@@ -251,7 +255,7 @@ fn held(piece: &mut Vec<u8>, random: &mut Random, cases: &mut Cases) -> (u16, [u
     let mut store: [u8; STORE_LENGTH] = random.junk(STORE_LENGTH).try_into().expect("615 bytes");
     match random.below(6) {
         0 | 1 => {
-            let length = 1 + random.index(piece.len().min(MOST_HELD));
+            let length = random.index(1 + piece.len().min(MOST_HELD));
             store[..length].copy_from_slice(&piece[..length]);
             piece.drain(..length);
             cases.with_held_bytes += 1;

@@ -163,10 +163,10 @@ impl JetString {
     /// Step 6. The close bit stays.
     fn recheck(&mut self, bad: &[bool]) {
         for manifold in 0..4 {
-            let found =
-                |(jet, bad): (&Jet, &bool)| jet.manifolds[manifold] && jet.recheck && *bad && !jet.re_enabled;
-            if self.jets.iter().zip(bad).any(found) {
-                self.close |= 1 << manifold;
+            for (jet, bad) in self.jets.iter().zip(bad) {
+                if jet.manifolds[manifold] && jet.recheck && *bad && !jet.re_enabled {
+                    self.close |= 1 << manifold;
+                }
             }
         }
     }
