@@ -83,11 +83,11 @@ nights = [
     script([(minor(1, 1), 34), (minor(2, 1), 34), (minor(3, 1), 34)], masks=REFUSED),
     # An outbox longer than 34 bytes keeps those after the 34th.
     script([(minor(1), 40), (minor(2), 255)]),
-    # A hall handed in whose manifold 0 is remembered closed and has a saved set beyond its mask: all of it leaves the fail word, and the set
-    # stays. Jets 16 and 17 are in no mask: the report does not show them, the hall does.
+    # A hall handed in whose manifold 0 is remembered closed and has a saved set beyond its mask: all of it leaves the fail word, and the
+    # set stays. Jets 16 and 17 are in no mask: the report does not show them, the hall does.
     script([(minor(1), 34), (minor(2), 34)], whole=hall(strings={0: string(standing(0x0003001F, 0xFFFFFFFE, (0x00010013, 0, 0, 0)))})),
     # Masks that overlap, lowest first: manifold 0 closes and saves jets 0 and 1, then 1 opens, and its saved jets 1 and 2 leave the fail
-    # word again. A start over these masks answers 6. In string 1 a lost path: the good copy comes back, close bits stay, the high ones too.
+    # word again. A start over these masks answers 6. In string 1 a lost path: the good copy comes back, all bits of the close word stay.
     script(
         [(records.minor(1, strings={0: (0, 0, 0, 0b1110)}), 34)],
         whole=hall(

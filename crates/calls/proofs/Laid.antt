@@ -1,4 +1,5 @@
--- A hall's parts read and laid out, over plain values: what the fields are, and the loop that fills a slice with equal parts. Assumes nothing.
+-- A hall's parts read and laid out, over plain values: what the fields are, and the loop that fills a slice with equal parts. Assumes
+-- nothing.
 use mathlib.Core.Path.{_≡_, refl, sym, ap, ap₂, _∙_}
 use mathlib.Core.Bool.{Bool}
 use mathlib.Core.List.{List, [], _∷_, _++_, append-assoc, append-nil}
@@ -19,7 +20,8 @@ use Rattle.cycle.specs.declared.string.StringState.{StringState}
 use Rattle.feed.specs.Bytes.{two, four, inFour, parts}
 use Rattle.feed.proofs.Reports.Parts.{parts-length}
 use Rattle.feed.proofs.Reports.Written.{put-next}
-use Rattle.calls.specs.Layout.{flagIn, wordIn, perManifold, standingIn, stringIn, masksIn, bankIn, hallIn, inWords, stringWordsOf, inString, inBank, inMap, inStrings, inBanks, inHall}
+use Rattle.calls.specs.Layout.{flagIn, wordIn, perManifold, standingIn, stringIn, masksIn, bankIn, hallIn}
+use Rattle.calls.specs.Layout.{inWords, stringWordsOf, inString, inBank, inMap, inStrings, inBanks, inHall}
 
 -- ---- read
 

@@ -12,8 +12,8 @@ use crate::script::{call, state, WHOLE_HALL};
 use crate::state::{hall_from, masks_of, HALL_LENGTH};
 use crate::world::{masks, quantities, warm};
 
-/// How often each case was met. Strings, manifolds and jets are counted at taken records whose path bit is clear,
-/// unless said otherwise.
+/// How often each case was met. Strings, manifolds and jets are counted at taken records whose path
+/// bit is clear, unless said otherwise.
 #[derive(Clone, Debug, Default)]
 pub struct Cases {
     pub halls: u64,

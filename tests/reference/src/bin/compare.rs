@@ -125,7 +125,8 @@ fn scripts(calls: &str, score: &mut Score) -> String {
     )
 }
 
-/// Halls that no run reaches, many to an input. Where one differs, its input is tried hall by hall, to name it.
+/// Halls that no run reaches, many to an input. Where one differs, its input is tried hall by hall, to
+/// name it.
 fn foreign_halls(calls: &str, number: u64, score: &mut Score) -> Cases {
     let mut cases = Cases::default();
     let mut begin = 0;
