@@ -1,9 +1,10 @@
 -- A whole hall in bytes, the fields in the order of the structs that declare them and each at its full width. Assumes nothing.
+use mathlib.Core.Path.{_≡_}
 use mathlib.Core.Bool.{Bool, cond, not}
 use mathlib.Core.List.{List, [], _∷_, _++_}
-use Prim.Native.Nat.{ℕ, _+_, _*_}
+use Prim.Native.Nat.{ℕ, _+_, _*_, _^_, _<_}
 use lib.Dec.{eqb}
-use lib.ListN.{getD}
+use lib.ListN.{length, getD}
 use Rattle.cycle.specs.Size.{stringCount, manifoldCount, moduleCount}
 use Rattle.cycle.specs.Each.{table}
 use Rattle.cycle.specs.Map.{masksOf}
@@ -126,3 +127,20 @@ inBanks banks = parts moduleCount (λ m. inBank (getD banks m noBank))
 
 unfoldable pub inHall : Hall → List ℕ
 inHall h = inFour (h .n) ++ (inMap (h .masks) ++ (inStrings (h .strings) ++ inBanks (h .banks)))
+
+-- ---- what the fields of a declared hall are: lists as long as the arrays, numbers that fit their widths
+
+pub record FitString (x : StringState) : Type 0 where
+  pub saved : length (x .standing .saved) ≡ manifoldCount
+  pub kept : length (x .good .saved) ≡ manifoldCount
+  pub words : (k : ℕ) → getD (stringWordsOf x) k 0 < 2 ^ 32
+
+pub record FitHall (h : Hall) : Type 0 where
+  pub number : h .n < 2 ^ 32
+  pub map : length (h .masks) ≡ stringCount
+  pub masks : (s : ℕ) → s < stringCount → length (masksOf (h .masks) s) ≡ manifoldCount
+  pub words : (s k : ℕ) → getD (masksOf (h .masks) s) k 0 < 2 ^ 32
+  pub strings : length (h .strings) ≡ stringCount
+  pub string : (s : ℕ) → s < stringCount → FitString (getD (h .strings) s pastString)
+  pub banks : length (h .banks) ≡ moduleCount
+  pub lesser : (m : ℕ) → (getD (h .banks) m noBank) .lesser < 2 ^ 16
