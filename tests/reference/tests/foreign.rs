@@ -3,6 +3,7 @@
 mod common;
 
 use common::{driver_on, with, with_major, MAP};
+use reference::foreign::{script, Cases};
 use reference::hall::{Hall, TAKEN};
 use reference::jet::{bit, Jet};
 use reference::random::Random;
@@ -122,4 +123,14 @@ fn a_hall_is_read_as_it_was_written() {
         assert_eq!(hall_bytes(&hall_from(&given)), written);
     }
     assert_eq!(hall_bytes(&Hall::fresh(&MAP))[..8], [0, 0, 0, 0, 0, 0, 0, 0x0F]);
+}
+
+#[test]
+fn random_halls_meet_every_case() {
+    let mut cases = Cases::default();
+    for seed in 0..400 {
+        script(seed, &mut cases);
+    }
+    let said = format!("{cases:?}").replace(['[', ']', '}'], ",");
+    assert!(!said.contains(" 0,") && !said.contains(",0,"), "{said}");
 }
