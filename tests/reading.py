@@ -1,13 +1,13 @@
 #!/usr/bin/env python3
-"""What has to be believed: the definitions that the front door's statements name, those that these name in turn, and so on; and the same
-from the contracts of public functions. The kit's own names are left out. Run by itself it prints the rows of the tables in
+"""What has to be believed: the definitions that the statements of the front door and of what people rely on name, those that these name in
+turn, and so on; and the same from the contracts of public functions. The kit's own names are left out. Run by itself it prints the rows of the tables in
 docs/CLAIMS.md."""
 import functools
 import pathlib
 import re
 
 root = pathlib.Path(__file__).resolve().parent.parent
-FRONT = "crates/promises/proofs/Promises.antt"
+FRONT = ("crates/promises/proofs/Promises.antt", "crates/promises/proofs/Keeper.antt")
 CRATES = ("feed", "cycle", "bits")
 
 
@@ -59,7 +59,7 @@ def scope(path):
     if path.endswith(".rt"):
         for crate, module, name in re.findall(rf"^use (crate|{'|'.join(CRATES)})::(\w+)::([A-Z]\w*[a-z]\w*);", text, re.M):
             names[name] = (f"crates/{path.split('/')[1] if crate == 'crate' else crate}/src/{module}.rt", name)
-    if path != FRONT:
+    if path not in FRONT:
         names |= {name: (path, name) for name in definitions(path)} | {c: (path, name) for c, name in constructors(path).items()}
     return names
 
@@ -87,10 +87,14 @@ def closure(start):
 
 
 def front_door():
-    """The names in the statements of the front door, each up to its proof, and in the parameters of its modules."""
-    stated = re.findall(r"^ *module (_) (.*) where$", text_of(FRONT), re.M)
-    stated += re.findall(r"^ *pub (\S+) :(.*?)(?=^ *\1[ \n])", text_of(FRONT), re.M | re.S)
-    return [at for _, statement in stated for at in named(FRONT, statement)]
+    """The names in the statements of the two files, each up to its proof, in their abbreviations and in the parameters of their modules."""
+    start = []
+    for path in FRONT:
+        stated = re.findall(r"^ *module (_) (.*?) where$", text_of(path), re.M | re.S)
+        stated += re.findall(r"^ *abbrev (\S+) :(.*?)\n$", text_of(path), re.M | re.S)
+        stated += re.findall(r"^ *pub (\S+) :(.*?)(?=^ *\1[ \n])", text_of(path), re.M | re.S)
+        start += [at for _, statement in stated for at in named(path, statement)]
+    return start
 
 
 def contracts():
