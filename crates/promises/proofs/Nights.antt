@@ -1,28 +1,70 @@
 -- The one claim over the single list of nights: every entry holds, by computing the definitions from fresh through every cycle.
 -- Assumes nothing.
 use mathlib.Core.Path.{refl}
+use mathlib.Core.List.{List, [], _∷_, _++_}
 use Rattle.bits.specs.Bit.{bit, without, meets, withBit, pack, any, every}
 use Rattle.cycle.specs.Each.{each, table}
 use Rattle.cycle.specs.Map.{mapped, overlap, refused}
 use Rattle.cycle.specs.Numbers.{isMajor, missedMajor, following, judgedAt, judged}
-use Rattle.cycle.specs.Words.{recovered, gapped, offFailure, manifold, passed, manifolds, minorSteps, minorCycle}
+use Rattle.cycle.specs.Words.{pathLost, recovered, gapped, offFailure, manifold, passed, manifolds, minorSteps, minorCycle}
 use Rattle.cycle.specs.Words.{requested, leakWord, badJets, closeBits, rechecked, onFailure, kept, majorSteps, majorCycle}
 use Rattle.cycle.specs.Banks.{weighed, weighedAll}
 use Rattle.cycle.specs.Hall.{freshHall, started, minorStrings, majorStrings, taken, stepped}
-use Rattle.feed.specs.Format.{rowOf, markOf, total, sumOf, reservedZero, goodMinor, markedLook, look}
+use Rattle.feed.specs.Format.{rowOf, markOf, total, sumOf, reservedZero, quantitiesRight, goodMinor, goodMajor, markedLook, look}
 use Rattle.feed.specs.Reader.{settle, reads}
-use Rattle.feed.specs.Values.{samplesOf, minorOf, valuesOf}
+use Rattle.feed.specs.Values.{samplesOf, minorOf, wordsAt, temperaturesOf, requestsOf, quantitiesOf, majorOf, valuesOf}
 use Rattle.feed.specs.Step.{isWhole, stepOf}
 use Rattle.feed.specs.Bytes.{parts}
 use Rattle.feed.specs.Report.{headOf, stringBytes, stringsBytes, balanceOf, lesserBytes, banksBytes, reportOf}
 use Rattle.feed.specs.Call.{startedOver, called, call}
-use Rattle.promises.specs.NightHolds.{EachHolds, outcomes, beforeRefusals, afterRefusals, cycles}
-use Rattle.promises.specs.Nights.{nights}
+use Rattle.promises.specs.Instance.{warmWords}
+use Rattle.promises.specs.NightHolds.{Night, EachHolds, outcomes, beforeRefusals, afterRefusals, calls, cycles}
+use Rattle.promises.specs.NightsOfRequests.{requestNights}
+use Rattle.promises.specs.NightsOfManifolds.{manifoldNights}
+use Rattle.promises.specs.NightsOfPaths.{pathNights}
+use Rattle.promises.specs.NightsOfLostValves.{lostValveNights}
+use Rattle.promises.specs.Nights.{starredNights, nights}
+
+-- whoever unfolds this unfolds every definition that a night computes with
+computed : Unit {0}
+unfolding bit without meets withBit pack any every each table mapped overlap refused isMajor missedMajor following judgedAt judged pathLost
+    recovered gapped offFailure manifold passed manifolds requested leakWord badJets closeBits rechecked onFailure kept minorSteps
+    majorSteps minorCycle majorCycle weighed weighedAll freshHall started minorStrings majorStrings taken stepped rowOf markOf total sumOf
+    reservedZero quantitiesRight goodMinor goodMajor markedLook look settle reads samplesOf minorOf wordsAt temperaturesOf requestsOf
+    quantitiesOf majorOf valuesOf isWhole stepOf parts headOf stringBytes stringsBytes balanceOf lesserBytes banksBytes reportOf
+    startedOver called call outcomes beforeRefusals afterRefusals calls cycles warmWords
+computed = tt
+
+-- part by part, since what one law may compute is bounded
+
+nights-hold-starred : EachHolds starredNights
+unfolding computed starredNights
+nights-hold-starred = (refl, (refl, (refl, (refl, (refl, (refl, (refl, (refl, (refl, tt)))))))))
+
+nights-hold-of-requests : EachHolds requestNights
+unfolding computed requestNights
+nights-hold-of-requests = (refl, (refl, (refl, (refl, tt))))
+
+nights-hold-of-manifolds : EachHolds manifoldNights
+unfolding computed manifoldNights
+nights-hold-of-manifolds = (refl, (refl, (refl, (refl, tt))))
+
+nights-hold-of-paths : EachHolds pathNights
+unfolding computed pathNights
+nights-hold-of-paths = (refl, (refl, (refl, (refl, (refl, (refl, tt))))))
+
+nights-hold-of-lost-valves : EachHolds lostValveNights
+unfolding computed lostValveNights
+nights-hold-of-lost-valves = (refl, (refl, (refl, tt)))
+
+both-hold : (l others : List Night) → EachHolds l → EachHolds others → EachHolds (l ++ others)
+both-hold [] others h g = g
+both-hold (night ∷ l) others h g = (h .0, both-hold l others (h .1) g)
 
 pub nights-hold : EachHolds nights
-unfolding bit without meets withBit pack any every each table mapped overlap refused isMajor missedMajor following judgedAt judged recovered
-    gapped offFailure manifold passed manifolds requested leakWord badJets closeBits rechecked onFailure kept minorSteps majorSteps
-    minorCycle majorCycle weighed weighedAll freshHall started minorStrings majorStrings taken stepped rowOf markOf total sumOf
-    reservedZero goodMinor markedLook look settle reads samplesOf minorOf valuesOf isWhole stepOf parts headOf stringBytes stringsBytes
-    balanceOf lesserBytes banksBytes reportOf startedOver called call outcomes beforeRefusals afterRefusals cycles nights
-nights-hold = (refl, (refl, (refl, (refl, (refl, (refl, (refl, (refl, (refl, tt)))))))))
+unfolding nights
+nights-hold =
+    both-hold starredNights _ nights-hold-starred
+    (both-hold requestNights _ nights-hold-of-requests
+    (both-hold manifoldNights _ nights-hold-of-manifolds
+    (both-hold pathNights lostValveNights nights-hold-of-paths nights-hold-of-lost-valves)))

@@ -1,6 +1,11 @@
 pub mod Outcomes
 pub mod NightRecords
 pub mod NightHolds
+pub mod NightBytes
+pub mod NightsOfRequests
+pub mod NightsOfManifolds
+pub mod NightsOfPaths
+pub mod NightsOfLostValves
 pub mod Nights
 pub mod Instance
 pub mod InstanceCalls

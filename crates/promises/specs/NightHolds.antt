@@ -1,4 +1,4 @@
--- What a night is and when it holds: it starts fresh over the map, and every record gets the report that the night states, all 34 bytes
+-- What a night is and when it holds: it starts fresh over its map, and every record gets the report that the night states, all 34 bytes
 -- of it. Assumes nothing.
 use mathlib.Core.Path.{_≡_}
 use mathlib.Core.Bool.{Bool, true, false, cond}
@@ -11,24 +11,30 @@ use Rattle.cycle.specs.Answers.{isTaken}
 use Rattle.cycle.specs.Records.{Record}
 use Rattle.cycle.specs.declared.answer.Answer.{Answer}
 use Rattle.cycle.specs.declared.answer.Answer.the-variants.{Taken}
+use Rattle.cycle.specs.declared.map.Masks.{Masks}
 use Rattle.cycle.specs.declared.hall.Hall.{Hall}
 use Rattle.cycle.specs.declared.hall.Stepped.{Stepped}
 use Rattle.feed.specs.Size.{reportLength}
 use Rattle.feed.specs.Bytes.{inFour}
 use Rattle.feed.specs.Report.{reportOf}
 use Rattle.feed.specs.Call.{Result, startedOver, call}
-use Rattle.promises.specs.NightRecords.{nightMap}
+use Rattle.feed.specs.declared.call.Monitor.{Monitor}
 
 -- a record, and the report that it must get
 pub record Exchange : Type 0 where
   pub given : Record
   pub report : List ℕ
 
+-- the bytes of one whole record, and the bytes of the report that it must get
+pub record Handed : Type 0 where
+  pub bytes : List ℕ
+  pub report : List ℕ
+
 pub data Night : Type 0 where
-  -- records, one after the other, and the report of each
-  stepping : List Exchange → Night
-  -- one piece of the feed, and the bytes of the report that one call writes
-  feeding : List ℕ → List ℕ → Night
+  -- over a map: records, one after the other, and the report of each
+  stepping : List Masks → List Exchange → Night
+  -- over a map: the bytes of records, each handed to one call, and the report that the call writes
+  feeding : List Masks → List Handed → Night
 
 -- what the hall gives back to records, one after the other
 unfoldable pub outcomes : Hall → List Record → List Stepped
@@ -49,54 +55,70 @@ unfoldable pub afterRefusals : List Stepped → List Hall
 afterRefusals [] = []
 afterRefusals (x ∷ l) = unlessTaken (isTaken (x .answer)) (x .hall) (afterRefusals l)
 
--- what is seen of records given to a fresh hall over the map: the answer to the map, the reports, the halls after the refusals
+-- what is seen of records given to a fresh hall over a map: the answer to the map, the reports, the halls after the refusals
 pub record Seen : Type 0 where
   pub start : Answer
   pub reports : List (List ℕ)
   pub refused : List Hall
 
-abbrev pub seenOf : List Stepped → Seen
-seenOf l = record {
-  start = (started nightMap) .answer;
+abbrev pub seenOf : List Masks → List Stepped → Seen
+seenOf masks l = record {
+  start = (started masks) .answer;
   reports = map (λ x. reportOf (x .answer) (x .hall)) l;
   refused = afterRefusals l;
 }
 
-abbrev pub seen : List Record → Seen
-seen l = seenOf (outcomes ((started nightMap) .hall) l)
+abbrev pub seen : List Masks → List Record → Seen
+seen masks l = seenOf masks (outcomes ((started masks) .hall) l)
 
 -- the map is accepted, each record gets its report, and what is not taken leaves the hall "as before"
-abbrev pub stated : List Exchange → Seen
-stated l = record {
+abbrev pub stated : List Masks → List Exchange → Seen
+stated masks l = record {
   start = Taken;
   reports = map (λ e. e .report) l;
-  refused = beforeRefusals ((started nightMap) .hall) (map (λ e. e .given) l);
+  refused = beforeRefusals ((started masks) .hall) (map (λ e. e .given) l);
 }
 
--- what is seen of one call of a fresh monitor over the map, with an outbox of 34 bytes FF: the answer to the map, the call's answer, the
--- bytes used, the number of bytes held after it, and the outbox
-pub record Fed : Type 0 where
-  pub start : Answer
+-- what is seen of one call: its answer, the bytes used, the number of bytes held after it, and the outbox
+pub record OneCall : Type 0 where
   pub answer : Answer
   pub used : ℕ
   pub held : ℕ
   pub outbox : List ℕ
 
-abbrev pub fedBy : Result → Fed
-fedBy r = record {
-  start = (startedOver nightMap) .answer;
+abbrev pub seenOfCall : Result → OneCall
+seenOfCall r = record {
   answer = r .outcome .answer;
   used = r .outcome .used;
   held = r .outcome .monitor .count;
   outbox = r .outbox;
 }
 
-abbrev pub fed : List ℕ → Fed
-fed piece = fedBy (call ((startedOver nightMap) .monitor) piece (replicate reportLength 0xFF))
+-- calls one after the other, each on the monitor that the one before it left, with an outbox of 34 bytes FF
+unfoldable pub calls : Monitor → List (List ℕ) → List OneCall
+calls m [] = []
+calls m (piece ∷ l) =
+    let r = call m piece (replicate reportLength 0xFF) in
+    seenOfCall r ∷ calls (r .outcome .monitor) l
+
+-- what is seen of calls of a fresh monitor over the map: the answer to the map, and each call
+pub record Fed : Type 0 where
+  pub start : Answer
+  pub seen : List OneCall
+
+abbrev pub fed : List Masks → List (List ℕ) → Fed
+fed masks l = record { start = (startedOver masks) .answer; seen = calls ((startedOver masks) .monitor) l }
+
+-- the map is accepted; each call takes its record, uses all of its bytes and holds none of them after it, and writes the report
+abbrev pub takesAll : Handed → OneCall
+takesAll x = record { answer = Taken; used = length (x .bytes); held = 0; outbox = x .report }
+
+abbrev pub statedFed : List Handed → Fed
+statedFed l = record { start = Taken; seen = map takesAll l }
 
 abbrev pub Holds : Night → Type 0
-Holds (stepping l) = seen (map (λ e. e .given) l) ≡ stated l
-Holds (feeding piece report) = fed piece ≡ record { start = Taken; answer = Taken; used = length piece; held = 0; outbox = report }
+Holds (stepping masks l) = seen masks (map (λ e. e .given) l) ≡ stated masks l
+Holds (feeding masks l) = fed masks (map (λ x. x .bytes) l) ≡ statedFed l
 
 -- every entry of the list holds
 abbrev pub EachHolds : List Night → Type 0

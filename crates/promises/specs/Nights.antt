@@ -8,9 +8,13 @@ use lib.ListN.{replicate}
 use Rattle.cycle.specs.Records.{minor}
 use Rattle.cycle.specs.declared.values.Temperatures.{Temperatures}
 use Rattle.cycle.specs.declared.values.Quantities.{Quantities}
-use Rattle.promises.specs.NightRecords.{sampleWith, quietSample, quietTemperatures, quietQuantities}
+use Rattle.promises.specs.NightRecords.{nightMap, sampleWith, quietSample, quietTemperatures, quietQuantities}
 use Rattle.promises.specs.NightRecords.{minorWith, recordWith, recordOfSample, atMajors, keeping}
 use Rattle.promises.specs.NightHolds.{Exchange, Night, stepping, feeding, reportWith, reportOfString, since, cycles}
+use Rattle.promises.specs.NightsOfRequests.{requestNights}
+use Rattle.promises.specs.NightsOfManifolds.{manifoldNights}
+use Rattle.promises.specs.NightsOfPaths.{pathNights}
+use Rattle.promises.specs.NightsOfLostValves.{lostValveNights}
 
 -- "First record 52 4D 00 01 00, then four times (twelve 00, then 0F), sum 00 DC. Report: 52 52 00 00 00 00 01, then 27 bytes 00."
 abbrev pub fourTimes : List ℕ → List ℕ
@@ -18,8 +22,12 @@ fourTimes l = l ++ l ++ l ++ l
 
 abbrev pub firstRecord : Night
 firstRecord =
-    feeding (0x52 ∷ 0x4D ∷ 0x00 ∷ 0x01 ∷ 0x00 ∷ fourTimes (replicate 12 0x00 ++ (0x0F ∷ [])) ++ (0x00 ∷ 0xDC ∷ []))
-    (0x52 ∷ 0x52 ∷ 0x00 ∷ 0x00 ∷ 0x00 ∷ 0x00 ∷ 0x01 ∷ replicate 27 0x00)
+    feeding nightMap
+    (record {
+      bytes = 0x52 ∷ 0x4D ∷ 0x00 ∷ 0x01 ∷ 0x00 ∷ fourTimes (replicate 12 0x00 ++ (0x0F ∷ [])) ++ (0x00 ∷ 0xDC ∷ []);
+      report = 0x52 ∷ 0x52 ∷ 0x00 ∷ 0x00 ∷ 0x00 ∷ 0x00 ∷ 0x01 ∷ replicate 27 0x00;
+    }
+    ∷ [])
 
 -- jet 0 commanded, no pressure, at the cycle n; good before the cycle `fails`, failed from it on
 abbrev pub noPressure : ℕ → ℕ → Exchange
@@ -28,11 +36,11 @@ noPressure fails n =
 
 -- "Jet 0 commanded, no pressure at 1, 2, 3: good after 2, failed at 3."
 abbrev pub failsOff : Night
-failsOff = stepping (map (noPressure 3) (1 ∷ 2 ∷ 3 ∷ []))
+failsOff = stepping nightMap (map (noPressure 3) (1 ∷ 2 ∷ 3 ∷ []))
 
 -- "The same at 1, 2, 4, 5, 6: failed at 6, not at 4 or 5."
 abbrev pub failsOffAfterGap : Night
-failsOffAfterGap = stepping (map (noPressure 6) (1 ∷ 2 ∷ 4 ∷ 5 ∷ 6 ∷ []))
+failsOffAfterGap = stepping nightMap (map (noPressure 6) (1 ∷ 2 ∷ 4 ∷ 5 ∷ 6 ∷ []))
 
 -- driver of jet 1 on, no command, if n is a major cycle; failed from 50 on, and the close bit from the cycle `closes` on
 abbrev pub driverOn : ℕ → ℕ → Exchange
@@ -43,11 +51,11 @@ driverOn closes n = record {
 
 -- "Driver of jet 1 on, no command, at 25, 50, 75, all cycles taken: failed at 50, close bit at 75."
 abbrev pub failsOn : Night
-failsOn = stepping (map (driverOn 75) (cycles 1 75))
+failsOn = stepping nightMap (map (driverOn 75) (cycles 1 75))
 
 -- "The same with record 75 missing, bad at 100, 125, 150: close bit at 150." Cycles 1 to 74, and 76 to 150
 abbrev pub failsOnAfterGap : Night
-failsOnAfterGap = stepping (map (driverOn 150) (cycles 1 74 ++ cycles 76 75))
+failsOnAfterGap = stepping nightMap (map (driverOn 150) (cycles 1 74 ++ cycles 76 75))
 
 -- at the cycle n: the jets commanded, without pressure, the valves open, and the fail word after it
 abbrev pub valvesOpen : ℕ → ℕ → ℕ → ℕ → Exchange
@@ -57,7 +65,7 @@ valvesOpen n commanded valves fail =
 -- "Jet 2 failed off, valve closes: fail word 0000000F. It opens: 00000004 (no commands)."
 abbrev pub valveCloses : Night
 valveCloses =
-    stepping
+    stepping nightMap
     (valvesOpen 1 0x00000004 0x0F 0x00000000
     ∷ valvesOpen 2 0x00000004 0x0F 0x00000000
     ∷ valvesOpen 3 0x00000004 0x0F 0x00000004
@@ -75,7 +83,7 @@ coldJets n =
     record { given = recordWith n quietSample coldTemperatures quietQuantities; report = reportOfString 0 n (since 50 0x00000003 n) 0x00 }
 
 abbrev pub leaksAt63 : Night
-leaksAt63 = stepping (map coldJets (cycles 1 50))
+leaksAt63 = stepping nightMap (map coldJets (cycles 1 50))
 
 -- a quiet minor record with this wire cycle, and what is reported: the answer and n
 abbrev pub wired : ℕ → ℕ → ℕ → Exchange
@@ -85,7 +93,7 @@ wired wire answer n = record { given = minor (minorWith wire quietSample); repor
 -- then wires 65,535 and 0, and d is 32,768 once more
 abbrev pub wireWraps : Night
 wireWraps =
-    stepping
+    stepping nightMap
     (wired 32768 1 0
     ∷ wired 32767 0 32767
     ∷ wired 65535 1 32767
@@ -116,9 +124,12 @@ weighing n = record {
 }
 
 abbrev pub quantitiesBalance : Night
-quantitiesBalance = stepping (map weighing (cycles 1 50))
+quantitiesBalance = stepping nightMap (map weighing (cycles 1 50))
 
--- the single list
-unfoldable pub nights : List Night
-nights =
+unfoldable pub starredNights : List Night
+starredNights =
     firstRecord ∷ failsOff ∷ failsOffAfterGap ∷ failsOn ∷ failsOnAfterGap ∷ valveCloses ∷ leaksAt63 ∷ wireWraps ∷ quantitiesBalance ∷ []
+
+-- the single list: those that 01 marks, and those that pin each step where no law does
+unfoldable pub nights : List Night
+nights = starredNights ++ (requestNights ++ (manifoldNights ++ (pathNights ++ lostValveNights)))
