@@ -1,10 +1,10 @@
--- Nights of valves that move while the path is lost: 01, "One cycle of a string", step 1, "remembered valves and saved sets come back from the
--- good copy", and step 4. Map: the nights' own. A line: cycle, path byte, what string 0 says, and its fail word and close byte in
--- the report. Assumes nothing.
+-- Nights of valves that move while the path is lost: 01, "One cycle of a string", step 1, "remembered valves and saved sets come back from
+-- the good copy", and step 4. Map: the nights' own. A line: cycle, path byte, what string 0 says, and its fail word and close byte
+-- in the report. Assumes nothing.
 use mathlib.Core.List.{List, [], _∷_}
 use Rattle.promises.specs.NightRecords.{nightMap}
 use Rattle.promises.specs.NightHolds.{Night, feeding}
-use Rattle.promises.specs.NightBytes.{at, quiet, commanding, driving, valves, requesting}
+use Rattle.promises.specs.NightBytes.{at, commanding, driving, valves}
 
 -- Jet 2 is bad at 25 and 50 and failed from then on. The valve closes under the fault of 51, and that is noticed at 52, when the path is
 -- good again. It closes and opens again under the fault of 54 and 55: nothing is noticed. It closes at 57 with the path good; after

@@ -1,5 +1,5 @@
--- Nights that pin step 4 of 01, "One cycle of a string": manifolds that close and open. A line: cycle, path byte, what string 0 says, and its
--- fail word and close byte in the report. Assumes nothing.
+-- Nights that pin step 4 of 01, "One cycle of a string": manifolds that close and open. A line: cycle, path byte, what string 0 says, and
+-- its fail word and close byte in the report. Assumes nothing.
 use mathlib.Core.List.{List, [], _∷_}
 use Rattle.promises.specs.NightRecords.{nightMap}
 use Rattle.promises.specs.NightHolds.{Night, feeding}
@@ -42,8 +42,8 @@ inhibitedFailOnOpening =
     ∷ at 28 0x00 (valves 0x0F) 0x00000001 0x00
     ∷ [])
 
--- A re-enable lapses when the valve closes, not when it opens: jet 1 is re-enabled while its valve is closed, and commanded without pressure
--- from its opening at 26 on: it does not fail. The valve closes at 29 and opens: jet 1 fails at 31
+-- A re-enable lapses when the valve closes, not when it opens: jet 1 is re-enabled while its valve is closed, and commanded without
+-- pressure from its opening at 26 on: it does not fail. The valve closes at 29 and opens: jet 1 fails at 31
 abbrev pub reenableStaysOnOpening : Night
 reenableStaysOnOpening =
     feeding nightMap

@@ -107,4 +107,6 @@ slotsEmptyAfterFault =
     ∷ [])
 
 unfoldable pub pathNights : List Night
-pathNights = goodCopyAfterRequests ∷ goodCopyAfterOnFailure ∷ oneStringRecovers ∷ overridesStayOverFault ∷ requestsLostUnderFault ∷ slotsEmptyAfterFault ∷ []
+pathNights =
+    goodCopyAfterRequests ∷ goodCopyAfterOnFailure ∷ oneStringRecovers ∷ overridesStayOverFault ∷ requestsLostUnderFault
+    ∷ slotsEmptyAfterFault ∷ []
