@@ -44,26 +44,26 @@ commanding jets = record { sample = sampleWith jets 0 0x0F; requests = noRequest
 abbrev pub driving : ℕ → Said
 driving jets = record { sample = sampleWith 0 jets 0x0F; requests = noRequests }
 
--- the valves that are open
+-- only these valves are open
 abbrev pub valves : ℕ → Said
-valves open-ones = record { sample = sampleWith 0 0 open-ones; requests = noRequests }
+valves opened = record { sample = sampleWith 0 0 opened; requests = noRequests }
 
 -- jets to be inhibited, and jets to be re-enabled
 abbrev pub requesting : ℕ → ℕ → Said
 requesting inhibit reenable = record { sample = quietSample; requests = record { inhibit = inhibit; reenable = reenable } }
 
--- two of these in one record
+-- the same where only these valves are open
 abbrev pub commandingAt : ℕ → ℕ → Said
-commandingAt open-ones jets = record { sample = sampleWith jets 0 open-ones; requests = noRequests }
+commandingAt opened jets = record { sample = sampleWith jets 0 opened; requests = noRequests }
 
 abbrev pub requestingAt : ℕ → ℕ → ℕ → Said
-requestingAt open-ones inhibit reenable =
-    record { sample = sampleWith 0 0 open-ones; requests = record { inhibit = inhibit; reenable = reenable } }
+requestingAt opened inhibit reenable =
+    record { sample = sampleWith 0 0 opened; requests = record { inhibit = inhibit; reenable = reenable } }
 
--- drivers on, valves and requests
+-- drivers on, without command, where only these valves are open; and requests
 abbrev pub drivingAt : ℕ → ℕ → ℕ → ℕ → Said
-drivingAt open-ones jets inhibit reenable =
-    record { sample = sampleWith 0 jets open-ones; requests = record { inhibit = inhibit; reenable = reenable } }
+drivingAt opened jets inhibit reenable =
+    record { sample = sampleWith 0 jets opened; requests = record { inhibit = inhibit; reenable = reenable } }
 
 -- ---- its bytes
 

@@ -1,4 +1,4 @@
--- 01, "Nights to try": those marked *, as entries of a single list, each in the paper's words and from fresh through every cycle.
+-- 01, "Nights to try": those marked *, each in the paper's words and from fresh through every cycle; and the single list of all nights.
 -- Assumes nothing.
 use mathlib.Core.Bool.{cond}
 use mathlib.Core.List.{List, [], _∷_, _++_, map}
