@@ -34,13 +34,14 @@ inhibited-fail false false false apart free = record { inhibitFails = λ e. e; r
 
 -- ---- steps 1 to 3
 
-recovered-over : (s : JetState) → (recovered s) .over ≡ s .over
+recovered-apart : (s : JetState) → (s .over .inhibit && s .over .reenable) ≡ false
+    → ((recovered s) .over .inhibit && (recovered s) .over .reenable) ≡ false
 unfolding recovered
-recovered-over s = by (s .lost) refl
+recovered-apart s apart = by (s .lost) refl
   where
-    by : (b : Bool) → s .lost ≡ b → (recovered s) .over ≡ s .over
-    by true e = rw e
-    by false e = rw e
+    by : (b : Bool) → s .lost ≡ b → ((recovered s) .over .inhibit && (recovered s) .over .reenable) ≡ false
+    by true e = rw e apart
+    by false e = rw e apart
 
 gapped-over : (gap missed : Bool) (s : JetState) → (gapped gap missed s) .over ≡ s .over
 unfolding gapped
@@ -79,11 +80,10 @@ unfolding minorSteps
 minor-minded old r s apart =
     let x : JetState = gapped (missedCycle old (r .n)) (missedMajor old (r .n)) (recovered s) in
     let y : JetState = offFailure (r .commanded) (r .pressure) x in
-    let same : x .over ≡ s .over =
-    gapped-over (missedCycle old (r .n)) (missedMajor old (r .n)) (recovered s) ∙ recovered-over s in
+    let same : x .over ≡ (recovered s) .over = gapped-over (missedCycle old (r .n)) (missedMajor old (r .n)) (recovered s) in
     let kept : y .over ≡ x .over = off-failure-over (r .commanded) (r .pressure) x in
     valve-minded (y .standing .valve) (r .valve) y
-    (ap (λ (o : JetOverrides). o .inhibit && o .reenable) (kept ∙ same) ∙ apart)
+    (ap (λ (o : JetOverrides). o .inhibit && o .reenable) (kept ∙ same) ∙ recovered-apart s apart)
     (λ e. off-failure-free (r .commanded) (r .pressure) x (ap (λ (o : JetOverrides). o .reenable) (sym kept) ∙ e))
 
 -- ---- steps 5 to 8
