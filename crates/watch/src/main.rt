@@ -1,56 +1,145 @@
 // The night monitor as a program: the map (64 bytes) and then a feed from standard input, the reports to standard output. Short or refused
 // masks: it writes nothing at all. It takes what the input has ready, writes the reports of that, and only then reads again, so that no
 // report waits for bytes that have not arrived. Memory is fixed. All that matters is in `feed`.
-ghost use Prim.Native.Nat.{_≤_};
+ghost use mathlib.Core.Logic.{_⊎_};
+ghost use mathlib.Core.Path.{_≡_};
+ghost use Prim.Native.Nat.{_≤_, _<_};
 ghost use lib.ListN.{length};
+ghost use Rattle.feed.specs.Size.{mapLength, outboxNeeded};
+ghost use Rattle.watch.specs.Lines.{largestCount, passes, Read, Written};
+ghost use Rattle.watch.specs.Watched.{Fresh, ReportedFor, EndedBy};
 use cycle::answer::Answer;
 use feed::call::Monitor;
 use feed::size::MAP;
 
-// Reads what is ready into the buffer, and says how many bytes; 0 where the input has ended or fails. A read that was only interrupted is
-// made again.
-fn read_ready(buf: &mut [u8]) -> usize
-    ensures { λ r. ⌜ r ≤ length (now (buf .exit)) ⌝ }
-{
-    let mut tries: u64 = u64::MAX;
-    while 0 < tries {
-        let got = libc::read(libc::STDIN_FILENO, buf);
-        if got >= 0 {
-            return io::count(got, buf);
-        }
-        if os::errno() != libc::EINTR {
-            return 0;
-        }
-        tries -= 1;
-    }
-    0
+// What became of a line: bytes went over it; it has ended or failed; or it was tried so often that no count can hold more.
+enum Line {
+    Open,
+    Over,
+    OutOfTries,
 }
 
-// Writes the buffer, and says how many bytes went out: all of them, unless a write fails for another reason than an interruption.
-fn write_out(buf: &[u8]) -> usize
-    ensures { λ r. ⌜ r ≤ length (now (buf .entry)) ⌝ }
+// How many bytes went over a line, what became of it, and the tries before the last.
+struct Moved {
+    bytes: usize,
+    line: Line,
+    tries: u64,
+}
+
+// Why the program has ended.
+enum Why {
+    InputOver,
+    OutputOver,
+    OutOfTurns,
+    OutOfTries,
+}
+
+// Why, after how many turns, and after how many tries at the line that ended it.
+struct Ended {
+    why: Why,
+    turns: u64,
+    tries: u64,
+}
+
+// Lets some time go by.
+fn pause() {
+    libc::sched_yield();
+}
+
+// Whether a failure passes, so that the call is made again: at once where it was only interrupted, after a pause where the line was not
+// ready.
+fn try_again(failure: i32) -> bool
+    ensures { λ r. ⌜ r ≡ passes failure ⌝ }
+{
+    if failure == libc::EAGAIN {
+        pause();
+        return true;
+    }
+    failure == libc::EINTR
+}
+
+// Reads what is ready into the buffer, and waits for that. (Into no buffer it would read nothing, as at the end of the input.)
+fn read_ready(buf: &mut [u8]) -> Moved
+    requires { ⌜ 0 < length (now buf) ⌝ }
+    ensures { λ r. ⌜ Read (length (now (buf .exit))) r ⌝ }
+{
+    let mut tries: u64 = 0;
+    while tries < u64::MAX {
+        let got = libc::read(libc::STDIN_FILENO, buf);
+        let bytes = io::count(got, buf);
+        if 0 < bytes {
+            return Moved {
+                bytes: bytes,
+                line: Line::Open,
+                tries: tries,
+            };
+        }
+        if got == 0 {
+            return Moved {
+                bytes: 0,
+                line: Line::Over,
+                tries: tries,
+            };
+        }
+        if !try_again(os::errno()) {
+            return Moved {
+                bytes: 0,
+                line: Line::Over,
+                tries: tries,
+            };
+        }
+        tries += 1;
+    }
+    Moved {
+        bytes: 0,
+        line: Line::OutOfTries,
+        tries: tries,
+    }
+}
+
+// Writes reports, all of them: those of the monitor m for this piece. Nothing else is ever written.
+fn write_reports(start: Monitor, m: Monitor, turns: u64, piece: &[u8], reports: &[u8]) -> Moved
+    requires { ⌜ ReportedFor start m turns (now piece) (now reports) ⌝ }
+    ensures { λ r. ⌜ Written (length (now (reports .entry))) r ⌝ }
 {
     let mut done: usize = 0;
-    let mut tries: u64 = u64::MAX;
-    while 0 < tries {
-        if done == buf.len() {
-            return done;
+    let mut tries: u64 = 0;
+    while tries < u64::MAX {
+        if done == reports.len() {
+            return Moved {
+                bytes: done,
+                line: Line::Open,
+                tries: tries,
+            };
         }
-        let rest = &buf[done..];
+        let rest = &reports[done..];
         let put = libc::write(libc::STDOUT_FILENO, rest);
-        if put > 0 {
-            done += io::count(put, rest);
+        let taken = io::count(put, rest);
+        if 0 < taken {
+            done += taken;
         } else {
             if put == 0 {
-                return done;
+                return Moved {
+                    bytes: done,
+                    line: Line::Over,
+                    tries: tries,
+                };
             }
-            if os::errno() != libc::EINTR {
-                return done;
+            if !try_again(os::errno()) {
+                return Moved {
+                    bytes: done,
+                    line: Line::Over,
+                    tries: tries,
+                };
             }
         }
-        tries -= 1;
+        tries += 1;
     }
-    done
+    Moved {
+        bytes: done,
+        line: Line::OutOfTries,
+        tries: tries,
+    }
 }
 
 // Reads until the map is there; feed bytes may come with it. Says how many bytes are in the buffer: fewer than the map's where the input
@@ -64,18 +153,80 @@ fn read_map(buf: &mut [u8]) -> usize
             return n;
         }
         let got = read_ready(&mut buf[n..]);
-        if got == 0 {
+        if got.bytes == 0 {
             return n;
         }
-        n += got;
+        n += got.bytes;
     }
     n
+}
+
+// The program ends at a line that is not open.
+fn ended_at(over: Why, turns: u64, moved: Moved) -> Ended
+    requires { ⌜ (over ≡ Why.InputOver) ⊎ (over ≡ Why.OutputOver) ⌝ }
+    requires { ⌜ (moved .line ≡ Line.OutOfTries → moved .tries ≡ largestCount) ⌝ }
+    ensures { λ r. ⌜ EndedBy r ⌝ }
+{
+    let line = moved.line;
+    if let Line::OutOfTries = line {
+        return Ended {
+            why: Why::OutOfTries,
+            turns: turns,
+            tries: moved.tries,
+        };
+    }
+    Ended {
+        why: over,
+        turns: turns,
+        tries: moved.tries,
+    }
+}
+
+// Watches: runs the monitor over what has been read, writes its reports, and reads on, from a fresh monitor and a buffer that holds the map
+// and perhaps feed bytes behind it.
+fn watched(start: Monitor, input: &mut [u8], read: usize, out: &mut [u8]) -> Ended
+    requires { ⌜ Fresh start ⌝ }
+    requires { ⌜ (mapLength ≤ read) × (read ≤ length (now input)) ⌝ }
+    requires { ⌜ outboxNeeded ≤ length (now out) ⌝ }
+    ensures { λ r. ⌜ EndedBy r ⌝ }
+{
+    let mut m = start;
+    let mut at: usize = MAP;
+    let mut n = read;
+    let mut turns: u64 = 0;
+    while turns < u64::MAX {
+        let r = m.run(&input[at..n], out);
+        let w = r.written;
+        let put = write_reports(start, m, turns, &input[at..n], &out[..w]);
+        let output = put.line;
+        let Line::Open = output else {
+            return ended_at(Why::OutputOver, turns, put);
+        };
+        let next = r.monitor;
+        m = next;
+        at += r.used;
+        if !r.more {
+            let got = read_ready(input);
+            let line = got.line;
+            let Line::Open = line else {
+                return ended_at(Why::InputOver, turns, got);
+            };
+            n = got.bytes;
+            at = 0;
+        }
+        turns += 1;
+    }
+    Ended {
+        why: Why::OutOfTurns,
+        turns: turns,
+        tries: 0,
+    }
 }
 
 fn main() {
     let mut input = io::large_buffer();
     let mut out = io::large_buffer();
-    let mut n = read_map(&mut input);
+    let n = read_map(&mut input);
     if n < MAP {
         return;
     }
@@ -84,25 +235,6 @@ fn main() {
     if let Answer::MapRefused = answer {
         return;
     }
-    let mut m = s.monitor;
-    let mut at: usize = MAP;
-    let mut left: u64 = u64::MAX;
-    while 0 < left {
-        let r = m.run(&input[at..n], &mut out);
-        let next = r.monitor;
-        m = next;
-        let w = r.written;
-        if write_out(&out[..w]) < w {
-            return;
-        }
-        at += r.used;
-        if !r.more {
-            n = read_ready(&mut input);
-            at = 0;
-            if n == 0 {
-                return;
-            }
-        }
-        left -= 1;
-    }
+    let start = s.monitor;
+    watched(start, &mut input, n, &mut out);
 }

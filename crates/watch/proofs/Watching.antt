@@ -1,0 +1,152 @@
+-- The monitor that the program keeps, from turn to turn. Assumes nothing.
+use mathlib.Core.Path.{_≡_, refl, sym, ap, subst, _∙_}
+use mathlib.Core.Bool.{Bool, true, false}
+use mathlib.Core.List.{List, [], _∷_, _++_, append-nil}
+use Prim.Native.Nat.{ℕ, _+_, _-_, _<_, _≤_}
+use native.Mathlib.Omega.{arith}
+use lib.ListN.{length, take, drop, length-append, length-drop, drop-of-length-le}
+use lib.Seq.{take-at, drop-at, take-add, drop-drop, length-take-le}
+use Rattle.cycle.specs.declared.map.Masks.{Masks}
+use Rattle.cycle.specs.Size.{stringCount}
+use Rattle.cycle.specs.Map.{refused}
+use Rattle.cycle.specs.Hall.{started}
+use Rattle.cycle.specs.declared.answer.Answer.the-variants.{MapRefused}
+use Rattle.feed.specs.Size.{mapLength, outboxNeeded}
+use Rattle.feed.specs.Masks.{masksOfBytes, startedFrom}
+use Rattle.feed.specs.Call.{startedOver, Reported, runs, Ran-by}
+use Rattle.feed.specs.Calls.{Made, monitorAfter, Hands, starts}
+use Rattle.feed.specs.Batch.{allReports, LastAlone, Continues}
+use Rattle.feed.specs.declared.call.Monitor.{Monitor}
+use Rattle.feed.specs.declared.call.Outcome.{Outcome}
+use Rattle.feed.specs.declared.call.Ran.{Ran}
+use Rattle.feed.proofs.Calls.Starting.{starts-from}
+use Rattle.feed.proofs.Calls.Batches.{batch-continues}
+use Rattle.watch.specs.Watched.{Fresh, Watched, ReportedFor}
+use Rattle.watch.proofs.Growing.{hands-more}
+
+-- 64 bytes of a map that is not refused start a fresh monitor
+pub fresh-from : (map : List ℕ) (s : Outcome) → length map ≡ mapLength → s ≡ startedFrom map → (s .answer ≡ MapRefused → ⊥)
+    → Fresh (s .monitor)
+unfolding startedOver started
+fresh-from map s long e kept = by (refused stringCount (masksOfBytes map)) refl
+  where
+    over : s ≡ startedOver (masksOfBytes map)
+    over = e ∙ starts-from map long
+
+    by : (b : Bool) → refused stringCount (masksOfBytes map) ≡ b → Fresh (s .monitor)
+    by true r = absurd (kept (ap (λ (x : Outcome). x .answer) over ∙ rw r refl))
+    by false r = record { map = map; whole = long; accepted = r; monitor = ap (λ (x : Outcome). x .monitor) over }
+
+-- at the start nothing has been handed in
+pub begins : (start : Monitor) → Fresh start → (left : List ℕ) → Watched start start 0 left
+unfolding monitorAfter
+begins start f left = record { fresh = f; feed = left; made = []; turned = omega arith; hands = starts; monitor = f .monitor }
+
+-- what is read is left to be handed in
+pub reads-on : (start m : Monitor) (turns : ℕ) (left more : List ℕ) → Watched start m turns left → Watched start m turns (left ++ more)
+reads-on start m turns left more w = record {
+  fresh = w .fresh;
+  feed = w .feed ++ more;
+  made = w .made;
+  turned = w .turned;
+  hands = hands-more (masksOfBytes (w .fresh .map)) (w .feed) more (w .made) left (w .hands);
+  monitor = w .monitor;
+}
+
+-- a run with room for a call makes one
+no-calls : (masks : List Masks) (cs : List Made) (room : ℕ) (x : Reported) (said : Bool) → outboxNeeded ≤ room → x .more ≡ said
+    → allReports masks cs ≡ allReports masks cs ++ x .reports
+    → (x .more ≡ true → room < length (x .reports) + outboxNeeded) → (x .more ≡ false → ⊥) → ⊥
+no-calls masks cs room x true enough e same full idle =
+    omega (arith, enough, full e, ap length same, length-append (allReports masks cs) (x .reports))
+no-calls masks cs room x false enough e same full idle = idle e
+
+made-one : (masks : List Masks) (cs more : List Made) (room : ℕ) (x : Reported) → outboxNeeded ≤ room
+    → allReports masks (more ++ cs) ≡ allReports masks cs ++ x .reports
+    → (x .more ≡ true → room < length (x .reports) + outboxNeeded) → (x .more ≡ false → LastAlone masks more cs) → 1 ≤ length more
+made-one masks cs [] room x enough same full idle = absurd (no-calls masks cs room x (x .more) enough refl same full idle)
+made-one masks cs (c ∷ more) room x enough same full idle = omega arith
+
+module _ (start m : Monitor) (turns : ℕ) (piece : List ℕ) (room : ℕ) (w : Watched start m turns piece) (enough : outboxNeeded ≤ room) where
+  abbrev masks : List Masks
+  masks = masksOfBytes (w .fresh .map)
+
+  abbrev x : Reported
+  x = runs room m piece
+
+  continues : Continues masks (w .feed) (w .made) piece [] room x
+  continues =
+      subst (λ (n : Monitor). Continues masks (w .feed) (w .made) piece [] room (runs room n piece)) (sym (w .monitor))
+      (batch-continues masks (w .feed) [] room (w .made) piece (subst (λ (l : List ℕ). Hands masks (w .feed) (w .made) l) (sym (append-nil piece)) (w .hands)))
+
+  -- a run over the piece leaves what it did not use
+  pub turned-on : Watched start (x .monitor) (turns + 1) (drop (x .used) piece)
+  turned-on =
+      let k = continues in
+      record {
+        fresh = w .fresh;
+        feed = w .feed;
+        made = k .more ++ w .made;
+        turned = omega (arith, w .turned, length-append (k .more) (w .made), made-one masks (w .made) (k .more) room x enough (k .reports) (λ e. k .full e .1) (λ e. k .idle e .0));
+        hands = subst (λ (l : List ℕ). Hands masks (w .feed) (k .more ++ w .made) l) (append-nil (drop (x .used) piece)) (k .hands);
+        monitor = sym (k .monitor);
+      }
+
+  -- nothing, where the run says that no more comes out
+  pub used-up : x .more ≡ false → drop (x .used) piece ≡ []
+  used-up e = let all : length piece ≤ x .used = omega (arith, continues .idle e .1) in drop-of-length-le piece all
+
+-- what is left of a part when its front is used
+rest-of : (at n used : ℕ) (input : List ℕ) → at ≤ n → n ≤ length input → at + used ≤ n
+    → drop used (take (n - at) (drop at input)) ≡ take (n - (at + used)) (drop (at + used) input)
+rest-of at n used input before within fits =
+    let l : List ℕ = drop at input in
+    let k : n - at ≡ used + (n - (at + used)) = omega arith in
+    let long : used ≤ length l = omega (arith, length-drop at input) in
+    ap (λ (j : ℕ). drop used (take j l)) k
+    ∙ ap (drop used) (take-add used (n - (at + used)) l)
+    ∙ drop-at (take used l) (take (n - (at + used)) (drop used l)) used (length-take-le used l long)
+    ∙ ap (take (n - (at + used))) (drop-drop used at input)
+
+module _ (start m : Monitor) (turns at n : ℕ) (input out : List ℕ) (r : Ran) (after : List ℕ) where
+  abbrev piece : List ℕ
+  piece = take (n - at) (drop at input)
+
+  module _ (w : Watched start m turns piece) (enough : outboxNeeded ≤ length out) (ran : Ran-by (runs (length out) m piece) out r after) where
+    -- what a run wrote into the outbox is what it reported
+    pub reported : ReportedFor start m turns piece (take (r .written) after)
+    reported =
+        let x : Reported = runs (length out) m piece in
+        record {
+          watched = w;
+          room = length out;
+          enough = enough;
+          same = ap (take (r .written)) (ran .outbox)
+              ∙ take-at (x .reports) (drop (length (x .reports)) out) (r .written) (sym (ran .written));
+        }
+
+    -- what it did not use is left
+    pub goes-on : at ≤ n → n ≤ length input → at + r .used ≤ n
+        → Watched start (r .monitor) (turns + 1) (take (n - (at + r .used)) (drop (at + r .used) input))
+    goes-on before within used =
+        let x : Reported = runs (length out) m piece in
+        let rest : drop (r .used) piece ≡ take (n - (at + r .used)) (drop (at + r .used) input) =
+        rest-of at n (r .used) input before within used in
+        let t = turned-on start m turns piece (length out) w enough in
+        subst (λ (l : List ℕ). Watched start (r .monitor) (turns + 1) l) (ap (λ (u : ℕ). drop u piece) (sym (ran .used)) ∙ rest)
+        (subst (λ (y : Monitor). Watched start y (turns + 1) (drop (x .used) piece)) (sym (ran .monitor)) t)
+
+    -- where no more comes out all was used, and what is read next is left
+    pub goes-on-read : r .more ≡ false → (next : List ℕ) → Watched start (r .monitor) (turns + 1) next
+    goes-on-read e next =
+        let x : Reported = runs (length out) m piece in
+        let none : drop (x .used) piece ≡ [] = used-up start m turns piece (length out) w enough (sym (ran .more) ∙ e) in
+        let t = turned-on start m turns piece (length out) w enough in
+        subst (λ (l : List ℕ). Watched start (r .monitor) (turns + 1) (l ++ next)) none
+        (reads-on start (r .monitor) (turns + 1) (drop (x .used) piece) next
+        (subst (λ (y : Monitor). Watched start y (turns + 1) (drop (x .used) piece)) (sym (ran .monitor)) t))
+
+-- the same where a buffer and its places are called otherwise
+pub at-places : (start m : Monitor) (turns at at′ n n′ : ℕ) (input input′ : List ℕ) → input′ ≡ input → at′ ≡ at → n′ ≡ n
+    → Watched start m turns (take (n - at) (drop at input)) → Watched start m turns (take (n′ - at′) (drop at′ input′))
+at-places start m turns at at′ n n′ input input′ e f g w = rw (e, f, g) w

@@ -1,0 +1,157 @@
+-- `watch::watched` meets its contract: there are a feed and calls that hand in what has been read, and the monitor is the one after them.
+-- Assumes nothing.
+use mathlib.Core.Path.{_≡_, refl, sym, ap, subst, _∙_}
+use mathlib.Core.Bool.{Bool, true, false, not}
+use mathlib.Core.Logic.{⊎-elim, inl, inr}
+use borrow.Author.Needs.{needs}
+use Prim.Native.Nat.{_+_, _-_, _≤_}
+use native.Mathlib.Omega.{arith}
+use lib.ListN.{length, take, drop, length-take}
+use lib.Seq.{length-take-le}
+use Rattle.feed.specs.Size.{outboxNeeded}
+use Rattle.feed.proofs.Calls.RunLaws.{runs-within}
+use Rattle.feed.proofs.Calls.Running.{written-within}
+use Rattle.watch.specs.Lines.{largestCount}
+use Rattle.watch.specs.Watched.{Watched}
+use Rattle.watch.proofs.Ending.{ended-turned}
+use Rattle.watch.proofs.Watching.{begins, reported, goes-on, goes-on-read, at-places}
+use Rattle.watch.proofs.watched.Statement.{statement}
+use Rattle.watch.proofs.watched.Tie as tie
+
+abbrev Inv-loop : tie.InvT-loop
+Inv-loop start input₀ read out₀ m₀ at₀ n₀ turns₀ input out m at n turns =
+    (length input ≡ length input₀) × (length out ≡ length out₀) × (at ≤ n) × (n ≤ length input) × (turns ≤ largestCount)
+    × Watched start m turns (take (n - at) (drop at input))
+
+abbrev μ-loop : tie.MeasureT-loop
+μ-loop start input₀ read out₀ m₀ at₀ n₀ turns₀ input out m at n turns = largestCount - turns
+
+-- where the test `!r.more` held
+not-true : (b : Bool) → not b ≡ true → b ≡ false
+not-true true e = sym e
+not-true false e = refl
+
+loop-holds : tie.Need-loop-holds Inv-loop μ-loop
+loop-holds c =
+    let a = c .before .before in
+    (refl, refl, a .pre .1 .0 .0, a .pre .1 .0 .1, omega arith, begins (a .args .start) (a .pre .0) _)
+
+-- there is room for a call
+room : (c : tie.After-run Inv-loop μ-loop) → outboxNeeded ≤ length (c .before .before .before .before .before .loop .out)
+room c =
+    let at-loop = c .before .before .before .before .before in
+    omega (arith, at-loop .before .before .before .pre .1 .1, at-loop .loop .inv .1)
+
+-- a run uses no more than is there
+run-used : (c : tie.After-run Inv-loop μ-loop) → c .before .before .before .before .before .loop .at + c .run .result .used ≤
+    c .before .before .before .before .before .loop .n
+run-used c =
+    let l = c .before .before .before .before .before .loop in
+    let there : c .run .result .used ≤ length (take (l .n - l .at) (drop (l .at) (l .input))) =
+    rw (c .run .ensures .used) (runs-within (length (l .out)) (length (l .out)) (l .m) (take (l .n - l .at) (drop (l .at) (l .input)))) in
+    let most : length (take (l .n - l .at) (drop (l .at) (l .input))) ≤ l .n - l .at = simp length-take (omega arith) in
+    omega (arith, l .inv .2)
+
+-- and writes within the outbox
+run-wrote : (c : tie.After-run Inv-loop μ-loop) → c .run .result .written ≤ length (c .run .last .1 .1 .0)
+run-wrote c =
+    let at-loop = c .before .before .before .before .before in
+    let kept = c .run .kept .1 .1 .0 in
+    omega (arith, written-within _ (at-loop .loop .out) (c .run .result) (c .run .last .1 .1 .0) (c .run .ensures) kept)
+
+slice-reshare-prefix-write-reports : tie.Need-slice-reshare-prefix-write-reports Inv-loop μ-loop
+slice-reshare-prefix-write-reports c = run-wrote (c .before .before .before .before)
+
+slice-aggregate-write-reports : tie.Need-slice-aggregate-write-reports Inv-loop μ-loop
+slice-aggregate-write-reports c =
+    let at-run = c .before .before .before .before .before in
+    sym (length-take-le (at-run .run .result .written) (at-run .run .last .1 .1 .0) (run-wrote at-run))
+
+write-reports-requires : tie.Need-write-reports-requires Inv-loop μ-loop
+write-reports-requires c κs =
+    let at-run = c .before .before .before .before .before in
+    let at-loop = at-run .before .before .before .before .before in
+    let l = at-loop .loop in
+    reported (at-loop .before .before .before .args .start) (l .m) (l .turns) (l .at) (l .n) (l .input) (l .out) (at-run .run .result)
+    (at-run .run .last .1 .1 .0) (l .inv .5) (room at-run) (at-run .run .ensures)
+
+ended-at-requires : tie.Need-ended-at-requires Inv-loop μ-loop
+ended-at-requires c κs = (inr refl, c .before .write-reports .ensures .told .tried)
+
+returns : tie.Need-returns Inv-loop μ-loop
+returns c = c .ended-at .ensures
+
+add-at : tie.Need-add-at Inv-loop μ-loop
+add-at c =
+    let at-run = c .before .before .before .before .before .before .before .before .before .before in
+    let at-loop = at-run .before .before .before .before .before in
+    omega (arith, run-used at-run, at-loop .loop .inv)
+
+read-ready-requires : tie.Need-read-ready-requires Inv-loop μ-loop
+read-ready-requires c κs =
+    let at-loop = c .before .before .before .before .before .before .before .before .before .before .before .before .before .before
+    .before .before .before .before in
+    omega (arith, at-loop .loop .inv .0, at-loop .before .before .before .pre .1 .0)
+
+ended-at-requires-2 : tie.Need-ended-at-requires-2 Inv-loop μ-loop
+ended-at-requires-2 c κs = (inl refl, c .before .before .before .read-ready .ensures .told .tried)
+
+-- the run whose bytes were used up before a read
+abbrev before-read : tie.After-read-ready Inv-loop μ-loop → tie.After-run Inv-loop μ-loop
+before-read c = c .before .before .before .before .before .before .before .before .before .before .before .before .before .before
+
+same-length-3 : tie.Need-same-length-3 Inv-loop μ-loop
+same-length-3 c =
+    let at-read = c .before .before .before .before in
+    at-read .read-ready .kept .0 ∙ before-read at-read .before .before .before .before .before .loop .inv .0
+
+same-length-4 : tie.Need-same-length-4 Inv-loop μ-loop
+same-length-4 c =
+    let at-run = before-read (c .before .before .before .before) in
+    at-run .run .kept .1 .1 .0 ∙ at-run .before .before .before .before .before .loop .inv .1
+
+returns-2 : tie.Need-returns-2 Inv-loop μ-loop
+returns-2 c = c .ended-at2 .ensures
+
+loop-again : tie.Need-loop-again Inv-loop μ-loop
+loop-again c =
+    let at-run = c .before .before .before .before .before .before .before .before .before .before .before .before in
+    let at-loop = at-run .before .before .before .before .before in
+    let l = at-loop .loop in
+    let start = at-loop .before .before .before .args .start in
+    let ran = at-run .run .ensures in
+    let outLong = at-run .run .kept .1 .1 .0 ∙ l .inv .1 in
+    ⊎-elim
+    (λ w.
+    let long = w .2 .kept .0 ∙ l .inv .0 in (
+      ap length (w .7) ∙ long,
+      outLong,
+      omega (arith, w .8, w .9),
+      omega (arith, w .9, w .2 .ensures .told .within, ap length (w .7)),
+      omega arith,
+      goes-on-read start (l .m) (l .turns) (l .at) (l .n) (l .input) (l .out) (at-run .run .result) (at-run .run .last .1 .1 .0) (l .inv .5)
+          (room at-run) ran (not-true _ (w .0 .taken)) _,
+    ))
+    (λ w. (
+      ap length (w .1) ∙ l .inv .0,
+      outLong,
+      omega (arith, w .2, w .3, run-used at-run),
+      omega (arith, w .3, l .inv .3, ap length (w .1)),
+      omega arith,
+      at-places start _ _ _ _ _ _ _ _ (w .1) (w .2) (w .3)
+          (goes-on start (l .m) (l .turns) (l .at) (l .n) (l .input) (l .out) (at-run .run .result) (at-run .run .last .1 .1 .0) (l .inv .5)
+          (room at-run) ran (l .inv .2) (l .inv .3) (run-used at-run)),
+    ))
+    (c .if1 .came)
+
+returns-3 : tie.Need-returns-3 Inv-loop μ-loop
+returns-3 c = ended-turned _ _ (omega arith)
+
+pub watched-spec : {M : Type 1} → statement M
+watched-spec =
+    tie.close
+    (tie.spec Inv-loop μ-loop loop-holds (λ c. search needs) (λ c. search needs) (λ c. search needs) (λ c κs. search needs)
+    (λ c. search needs) (λ c. search needs) (λ c. search needs) slice-reshare-prefix-write-reports slice-aggregate-write-reports
+    write-reports-requires (λ c. search needs) ended-at-requires (λ c. search needs) (λ c. search needs) returns add-at
+    read-ready-requires (λ c. search needs) ended-at-requires-2 same-length-3 same-length-4 returns-2 (λ c. search needs)
+    (λ c. search needs) loop-again (λ c. search needs) (λ c. search needs) returns-3)

@@ -1,0 +1,34 @@
+-- What the program does at a line: which failures it tries again, and when it gives a line up. Assumes nothing.
+use mathlib.Core.Path.{_≡_}
+use mathlib.Core.Bool.{Bool, true, false, _||_}
+use Prim.Native.Nat.{ℕ, _≤_, _<_}
+use lib.Dec.{eqb}
+use lib.IntN.{ℤ, pos, negsuc}
+use Rattle.watch.specs.declared.Line.{Line}
+use Rattle.watch.specs.declared.Line.the-variants.{Open, OutOfTries}
+use Rattle.watch.specs.declared.Moved.{Moved}
+
+-- the largest count: of turns, and of tries at a line
+abbrev pub largestCount : ℕ
+largestCount = 18446744073709551615
+
+-- the failures that pass: 11, a line that has nothing ready or can take nothing now (EAGAIN), and 4, a call that was interrupted (EINTR)
+abbrev pub passes : ℤ → Bool
+passes (pos n) = eqb n 11 || eqb n 4
+passes (negsuc n) = false
+
+-- what a read or a write says of a line that had so many bytes to fill or to give: it is given up for want of tries only after the largest
+-- count of them
+pub record Told (most : ℕ) (r : Moved) : Type 0 where
+  pub within : r .bytes ≤ most
+  pub tried : r .line ≡ OutOfTries → r .tries ≡ largestCount
+
+-- a read that says that the line is open brought something
+pub record Read (most : ℕ) (r : Moved) : Type 0 where
+  pub told : Told most r
+  pub some : r .line ≡ Open → 0 < r .bytes
+
+-- a write that says that the line is open took everything
+pub record Written (most : ℕ) (r : Moved) : Type 0 where
+  pub told : Told most r
+  pub all : r .line ≡ Open → r .bytes ≡ most

@@ -1,0 +1,45 @@
+-- What the program keeps from turn to turn, and what it may write. Assumes nothing.
+use mathlib.Core.Path.{_≡_}
+use mathlib.Core.Bool.{false}
+use mathlib.Core.List.{List}
+use Prim.Native.Nat.{ℕ, _≤_}
+use lib.ListN.{length}
+use Rattle.cycle.specs.Size.{stringCount}
+use Rattle.cycle.specs.Map.{refused}
+use Rattle.feed.specs.Size.{mapLength, outboxNeeded}
+use Rattle.feed.specs.Masks.{masksOfBytes}
+use Rattle.feed.specs.Call.{startedOver, runs}
+use Rattle.feed.specs.Calls.{Made, monitorAfter, Hands}
+use Rattle.feed.specs.declared.call.Monitor.{Monitor}
+use Rattle.watch.specs.Lines.{largestCount}
+use Rattle.watch.specs.declared.Ended.{Ended}
+use Rattle.watch.specs.declared.Why.the-variants.{OutOfTurns, OutOfTries}
+
+-- "the sixteen masks first (64 bytes ..)", "if the masks are short or refused it writes nothing": the monitor is fresh over a whole map that
+-- is accepted
+pub record Fresh (start : Monitor) : Type 0 where
+  pub map : List ℕ
+  pub whole : length map ≡ mapLength
+  pub accepted : refused stringCount (masksOfBytes map) ≡ false
+  pub monitor : start ≡ (startedOver (masksOfBytes map)) .monitor
+
+-- there are a feed and calls that hand in what has been read, all but `left`, and m is the monitor after them; each turn has made a call
+pub record Watched (start m : Monitor) (turns : ℕ) (left : List ℕ) : Type 0 where
+  pub fresh : Fresh start
+  pub feed : List ℕ
+  pub made : List Made
+  pub turned : turns ≤ length made
+  pub hands : Hands (masksOfBytes (fresh .map)) feed made left
+  pub monitor : m ≡ monitorAfter (masksOfBytes (fresh .map)) made
+
+-- "and writes the reports": these bytes are what a run reported for the monitor and the piece that it had, and all of it
+pub record ReportedFor (start m : Monitor) (turns : ℕ) (piece bytes : List ℕ) : Type 0 where
+  pub watched : Watched start m turns piece
+  pub room : ℕ
+  pub enough : outboxNeeded ≤ room
+  pub same : bytes ≡ (runs room m piece) .reports
+
+-- the program gives up for want of turns or of tries only after the largest count of them
+pub record EndedBy (r : Ended) : Type 0 where
+  pub turned : r .why ≡ OutOfTurns → r .turns ≡ largestCount
+  pub tried : r .why ≡ OutOfTries → r .tries ≡ largestCount
