@@ -11,6 +11,7 @@ ghost use Rattle.watch.specs.Watched.{Fresh, ReportedFor, EndedBy};
 use cycle::answer::Answer;
 use feed::call::Monitor;
 use feed::size::MAP;
+use libc::types::timespec;
 
 // What became of a line: bytes went over it; it has ended or failed; or it was tried so often that no count can hold more.
 enum Line {
@@ -41,9 +42,17 @@ struct Ended {
     tries: u64,
 }
 
-// Lets some time go by.
+// Waits two milliseconds, or less where a signal ends the wait: short beside a cycle's 40.
 fn pause() {
-    libc::sched_yield();
+    let asked = timespec {
+        tv_sec: 0,
+        tv_nsec: 2000000,
+    };
+    let mut left = timespec {
+        tv_sec: 0,
+        tv_nsec: 0,
+    };
+    libc::nanosleep(&asked, &mut left);
 }
 
 // Whether a failure passes, so that the call is made again: at once where it was only interrupted, after a pause where the line was not
