@@ -77,7 +77,8 @@ module _ (start m : Monitor) (turns : ℕ) (piece : List ℕ) (room : ℕ) (w : 
   continues : Continues masks (w .feed) (w .made) piece [] room x
   continues =
       subst (λ (n : Monitor). Continues masks (w .feed) (w .made) piece [] room (runs room n piece)) (sym (w .monitor))
-      (batch-continues masks (w .feed) [] room (w .made) piece (subst (λ (l : List ℕ). Hands masks (w .feed) (w .made) l) (sym (append-nil piece)) (w .hands)))
+      (batch-continues masks (w .feed) [] room (w .made) piece
+      (subst (λ (l : List ℕ). Hands masks (w .feed) (w .made) l) (sym (append-nil piece)) (w .hands)))
 
   -- a run over the piece leaves what it did not use
   pub turned-on : Watched start (x .monitor) (turns + 1) (drop (x .used) piece)
@@ -87,7 +88,9 @@ module _ (start m : Monitor) (turns : ℕ) (piece : List ℕ) (room : ℕ) (w : 
         fresh = w .fresh;
         feed = w .feed;
         made = k .more ++ w .made;
-        turned = omega (arith, w .turned, length-append (k .more) (w .made), made-one masks (w .made) (k .more) room x enough (k .reports) (λ e. k .full e .1) (λ e. k .idle e .0));
+        turned =
+            let one = made-one masks (w .made) (k .more) room x enough (k .reports) (λ e. k .full e .1) (λ e. k .idle e .0) in
+            omega (arith, w .turned, length-append (k .more) (w .made), one);
         hands = subst (λ (l : List ℕ). Hands masks (w .feed) (k .more ++ w .made) l) (append-nil (drop (x .used) piece)) (k .hands);
         monitor = sym (k .monitor);
       }
@@ -112,7 +115,8 @@ module _ (start m : Monitor) (turns at n : ℕ) (input out : List ℕ) (r : Ran)
   abbrev piece : List ℕ
   piece = take (n - at) (drop at input)
 
-  module _ (w : Watched start m turns piece) (enough : outboxNeeded ≤ length out) (ran : Ran-by (runs (length out) m piece) out r after) where
+  module _ (w : Watched start m turns piece) (enough : outboxNeeded ≤ length out)
+      (ran : Ran-by (runs (length out) m piece) out r after) where
     -- what a run wrote into the outbox is what it reported
     pub reported : ReportedFor start m turns piece (take (r .written) after)
     reported =

@@ -15,8 +15,8 @@ use Rattle.watch.specs.Lines.{largestCount}
 use Rattle.watch.specs.declared.Ended.{Ended}
 use Rattle.watch.specs.declared.Why.the-variants.{OutOfTurns, OutOfTries}
 
--- "the sixteen masks first (64 bytes ..)", "if the masks are short or refused it writes nothing": the monitor is fresh over a whole map that
--- is accepted
+-- "the sixteen masks first (64 bytes ..)", "if the masks are short or refused it writes nothing": the monitor is fresh over a whole map
+-- that is accepted
 pub record Fresh (start : Monitor) : Type 0 where
   pub map : List ℕ
   pub whole : length map ≡ mapLength

@@ -37,7 +37,8 @@ loop-again : tie.Need-loop-again Inv-loop μ-loop
 loop-again c =
     let at-read-ready = c .before .before .before .before .before in
     let l = at-read-ready .before .before .before .before .loop in
-    let same = same-len-mid (l .n) (length (l .buf) - l .n) (l .buf) (at-read-ready .read-ready .last .0) (at-read-ready .read-ready .kept .0) in
+    let r = at-read-ready .read-ready in
+    let same = same-len-mid (l .n) (length (l .buf) - l .n) (l .buf) (r .last .0) (r .kept .0) in
     (omega (arith, same, fits at-read-ready), same ∙ l .inv .1)
 
 pub read-map-spec : {M : Type 1} → statement M
