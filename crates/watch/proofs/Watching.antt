@@ -2,7 +2,7 @@
 use mathlib.Core.Path.{_≡_, refl, sym, ap, subst, _∙_}
 use mathlib.Core.Bool.{Bool, true, false}
 use mathlib.Core.List.{List, [], _∷_, _++_, append-nil}
-use Prim.Native.Nat.{ℕ, _+_, _-_, _<_, _≤_}
+use Prim.Native.Nat.{ℕ, _+_, _-_, _<_, _≤_, _%_, _^_}
 use native.Mathlib.Omega.{arith}
 use lib.ListN.{length, take, drop, length-append, length-drop, drop-of-length-le}
 use lib.Seq.{take-at, drop-at, take-add, drop-drop, length-take-le}
@@ -38,17 +38,29 @@ fresh-from map s long e kept = by (refused stringCount (masksOfBytes map)) refl
     by false r = record { map = map; whole = long; accepted = r; monitor = ap (λ (x : Outcome). x .monitor) over }
 
 -- at the start nothing has been handed in
-pub begins : (start : Monitor) → Fresh start → (left : List ℕ) → Watched start start 0 left
-unfolding monitorAfter
-begins start f left = record { fresh = f; feed = left; made = []; turned = omega arith; hands = starts; monitor = f .monitor }
+pub begins : (start : Monitor) → Fresh start → (fed : ℕ) (left : List ℕ) → fed ≡ length left % 2 ^ 64 → Watched start start 0 fed 0 left
+unfolding monitorAfter allReports
+begins start f fed left e = record {
+  fresh = f;
+  feed = left;
+  made = [];
+  turned = omega arith;
+  read = e;
+  written = refl;
+  hands = starts;
+  monitor = f .monitor;
+}
 
 -- what is read is left to be handed in
-pub reads-on : (start m : Monitor) (turns : ℕ) (left more : List ℕ) → Watched start m turns left → Watched start m turns (left ++ more)
-reads-on start m turns left more w = record {
+pub reads-on : (start m : Monitor) (turns fed fed′ told : ℕ) (left more : List ℕ) → fed′ ≡ (fed + length more) % 2 ^ 64
+    → Watched start m turns fed told left → Watched start m turns fed′ told (left ++ more)
+reads-on start m turns fed fed′ told left more e w = record {
   fresh = w .fresh;
   feed = w .feed ++ more;
   made = w .made;
   turned = w .turned;
+  read = omega (arith, e, w .read, length-append (w .feed) more);
+  written = w .written;
   hands = hands-more (masksOfBytes (w .fresh .map)) (w .feed) more (w .made) left (w .hands);
   monitor = w .monitor;
 }
@@ -67,7 +79,8 @@ made-one : (masks : List Masks) (cs more : List Made) (room : ℕ) (x : Reported
 made-one masks cs [] room x enough same full idle = absurd (no-calls masks cs room x (x .more) enough refl same full idle)
 made-one masks cs (c ∷ more) room x enough same full idle = omega arith
 
-module _ (start m : Monitor) (turns : ℕ) (piece : List ℕ) (room : ℕ) (w : Watched start m turns piece) (enough : outboxNeeded ≤ room) where
+module _ (start m : Monitor) (turns fed told : ℕ) (piece : List ℕ) (room : ℕ) (w : Watched start m turns fed told piece)
+    (enough : outboxNeeded ≤ room) where
   abbrev masks : List Masks
   masks = masksOfBytes (w .fresh .map)
 
@@ -81,9 +94,11 @@ module _ (start m : Monitor) (turns : ℕ) (piece : List ℕ) (room : ℕ) (w : 
       (subst (λ (l : List ℕ). Hands masks (w .feed) (w .made) l) (sym (append-nil piece)) (w .hands)))
 
   -- a run over the piece leaves what it did not use
-  pub turned-on : Watched start (x .monitor) (turns + 1) (drop (x .used) piece)
-  turned-on =
+  pub turned-on : (told′ : ℕ) → told′ ≡ (told + length (x .reports)) % 2 ^ 64
+      → Watched start (x .monitor) (turns + 1) fed told′ (drop (x .used) piece)
+  turned-on told′ e =
       let k = continues in
+      let long = ap length (k .reports) ∙ length-append (allReports masks (w .made)) (x .reports) in
       record {
         fresh = w .fresh;
         feed = w .feed;
@@ -91,6 +106,8 @@ module _ (start m : Monitor) (turns : ℕ) (piece : List ℕ) (room : ℕ) (w : 
         turned =
             let one = made-one masks (w .made) (k .more) room x enough (k .reports) (λ e. k .full e .1) (λ e. k .idle e .0) in
             omega (arith, w .turned, length-append (k .more) (w .made), one);
+        read = w .read;
+        written = omega (arith, e, w .written, long);
         hands = subst (λ (l : List ℕ). Hands masks (w .feed) (k .more ++ w .made) l) (append-nil (drop (x .used) piece)) (k .hands);
         monitor = sym (k .monitor);
       }
@@ -111,14 +128,14 @@ rest-of at n used input before within fits =
     ∙ drop-at (take used l) (take (n - (at + used)) (drop used l)) used (length-take-le used l long)
     ∙ ap (take (n - (at + used))) (drop-drop used at input)
 
-module _ (start m : Monitor) (turns at n : ℕ) (input out : List ℕ) (r : Ran) (after : List ℕ) where
+module _ (start m : Monitor) (turns fed told at n : ℕ) (input out : List ℕ) (r : Ran) (after : List ℕ) where
   abbrev piece : List ℕ
   piece = take (n - at) (drop at input)
 
-  module _ (w : Watched start m turns piece) (enough : outboxNeeded ≤ length out)
+  module _ (w : Watched start m turns fed told piece) (enough : outboxNeeded ≤ length out)
       (ran : Ran-by (runs (length out) m piece) out r after) where
     -- what a run wrote into the outbox is what it reported
-    pub reported : ReportedFor start m turns piece (take (r .written) after)
+    pub reported : ReportedFor start m turns fed told piece (take (r .written) after)
     reported =
         let x : Reported = runs (length out) m piece in
         record {
@@ -129,28 +146,38 @@ module _ (start m : Monitor) (turns at n : ℕ) (input out : List ℕ) (r : Ran)
               ∙ take-at (x .reports) (drop (length (x .reports)) out) (r .written) (sym (ran .written));
         }
 
+    -- all of it was written
+    all-told : (told′ bytes : ℕ) → bytes ≡ length (take (r .written) after) → told′ ≡ (told + bytes) % 2 ^ 64
+        → told′ ≡ (told + length ((runs (length out) m piece) .reports)) % 2 ^ 64
+    unfolding reported
+    all-told told′ bytes all e = e ∙ ap (λ (b : ℕ). (told + b) % 2 ^ 64) (all ∙ ap length (reported .same))
+
     -- what it did not use is left
-    pub goes-on : at ≤ n → n ≤ length input → at + r .used ≤ n
-        → Watched start (r .monitor) (turns + 1) (take (n - (at + r .used)) (drop (at + r .used) input))
-    goes-on before within used =
+    pub goes-on : (told′ bytes : ℕ) → bytes ≡ length (take (r .written) after) → told′ ≡ (told + bytes) % 2 ^ 64
+        → at ≤ n → n ≤ length input → at + r .used ≤ n
+        → Watched start (r .monitor) (turns + 1) fed told′ (take (n - (at + r .used)) (drop (at + r .used) input))
+    goes-on told′ bytes all e before within used =
         let x : Reported = runs (length out) m piece in
         let rest : drop (r .used) piece ≡ take (n - (at + r .used)) (drop (at + r .used) input) =
         rest-of at n (r .used) input before within used in
-        let t = turned-on start m turns piece (length out) w enough in
-        subst (λ (l : List ℕ). Watched start (r .monitor) (turns + 1) l) (ap (λ (u : ℕ). drop u piece) (sym (ran .used)) ∙ rest)
-        (subst (λ (y : Monitor). Watched start y (turns + 1) (drop (x .used) piece)) (sym (ran .monitor)) t)
+        let t = turned-on start m turns fed told piece (length out) w enough told′ (all-told told′ bytes all e) in
+        subst (λ (l : List ℕ). Watched start (r .monitor) (turns + 1) fed told′ l) (ap (λ (u : ℕ). drop u piece) (sym (ran .used)) ∙ rest)
+        (subst (λ (y : Monitor). Watched start y (turns + 1) fed told′ (drop (x .used) piece)) (sym (ran .monitor)) t)
 
     -- where no more comes out all was used, and what is read next is left
-    pub goes-on-read : r .more ≡ false → (next : List ℕ) → Watched start (r .monitor) (turns + 1) next
-    goes-on-read e next =
+    pub goes-on-read : (told′ bytes fed′ : ℕ) → bytes ≡ length (take (r .written) after) → told′ ≡ (told + bytes) % 2 ^ 64
+        → r .more ≡ false → (next : List ℕ) → fed′ ≡ (fed + length next) % 2 ^ 64
+        → Watched start (r .monitor) (turns + 1) fed′ told′ next
+    goes-on-read told′ bytes fed′ all f e next g =
         let x : Reported = runs (length out) m piece in
-        let none : drop (x .used) piece ≡ [] = used-up start m turns piece (length out) w enough (sym (ran .more) ∙ e) in
-        let t = turned-on start m turns piece (length out) w enough in
-        subst (λ (l : List ℕ). Watched start (r .monitor) (turns + 1) (l ++ next)) none
-        (reads-on start (r .monitor) (turns + 1) (drop (x .used) piece) next
-        (subst (λ (y : Monitor). Watched start y (turns + 1) (drop (x .used) piece)) (sym (ran .monitor)) t))
+        let none : drop (x .used) piece ≡ [] = used-up start m turns fed told piece (length out) w enough (sym (ran .more) ∙ e) in
+        let t = turned-on start m turns fed told piece (length out) w enough told′ (all-told told′ bytes all f) in
+        subst (λ (l : List ℕ). Watched start (r .monitor) (turns + 1) fed′ told′ (l ++ next)) none
+        (reads-on start (r .monitor) (turns + 1) fed fed′ told′ (drop (x .used) piece) next g
+        (subst (λ (y : Monitor). Watched start y (turns + 1) fed told′ (drop (x .used) piece)) (sym (ran .monitor)) t))
 
 -- the same where a buffer and its places are called otherwise
-pub at-places : (start m : Monitor) (turns at at′ n n′ : ℕ) (input input′ : List ℕ) → input′ ≡ input → at′ ≡ at → n′ ≡ n
-    → Watched start m turns (take (n - at) (drop at input)) → Watched start m turns (take (n′ - at′) (drop at′ input′))
-at-places start m turns at at′ n n′ input input′ e f g w = rw (e, f, g) w
+pub at-places : (start m : Monitor) (turns told fed fed′ at at′ n n′ : ℕ) (input input′ : List ℕ) → input′ ≡ input → at′ ≡ at → n′ ≡ n
+    → fed′ ≡ fed → Watched start m turns fed told (take (n - at) (drop at input))
+    → Watched start m turns fed′ told (take (n′ - at′) (drop at′ input′))
+at-places start m turns told fed fed′ at at′ n n′ input input′ e f g h w = rw (e, f, g, h) w

@@ -2,7 +2,7 @@
 use mathlib.Core.Path.{_≡_}
 use mathlib.Core.Bool.{false}
 use mathlib.Core.List.{List}
-use Prim.Native.Nat.{ℕ, _≤_}
+use Prim.Native.Nat.{ℕ, _≤_, _%_, _^_}
 use lib.ListN.{length}
 use Rattle.cycle.specs.Size.{stringCount}
 use Rattle.cycle.specs.Map.{refused}
@@ -10,6 +10,7 @@ use Rattle.feed.specs.Size.{mapLength, outboxNeeded}
 use Rattle.feed.specs.Masks.{masksOfBytes}
 use Rattle.feed.specs.Call.{startedOver, runs}
 use Rattle.feed.specs.Calls.{Made, monitorAfter, Hands}
+use Rattle.feed.specs.Batch.{allReports}
 use Rattle.feed.specs.declared.call.Monitor.{Monitor}
 use Rattle.watch.specs.Lines.{largestCount}
 use Rattle.watch.specs.declared.Ended.{Ended}
@@ -23,18 +24,21 @@ pub record Fresh (start : Monitor) : Type 0 where
   pub accepted : refused stringCount (masksOfBytes map) ≡ false
   pub monitor : start ≡ (startedOver (masksOfBytes map)) .monitor
 
--- there are a feed and calls that hand in what has been read, all but `left`, and m is the monitor after them; each turn has made a call
-pub record Watched (start m : Monitor) (turns : ℕ) (left : List ℕ) : Type 0 where
+-- There are a feed and calls that hand in what has been read, all but `left`, and m is the monitor after them. Each turn has made a call;
+-- the feed has as many bytes as the reads gave, and the calls' reports as many as the writes took, counted round in a word.
+pub record Watched (start m : Monitor) (turns fed told : ℕ) (left : List ℕ) : Type 0 where
   pub fresh : Fresh start
   pub feed : List ℕ
   pub made : List Made
   pub turned : turns ≤ length made
+  pub read : fed ≡ length feed % 2 ^ 64
+  pub written : told ≡ length (allReports (masksOfBytes (fresh .map)) made) % 2 ^ 64
   pub hands : Hands (masksOfBytes (fresh .map)) feed made left
   pub monitor : m ≡ monitorAfter (masksOfBytes (fresh .map)) made
 
 -- "and writes the reports": these bytes are what a run reported for the monitor and the piece that it had, and all of it
-pub record ReportedFor (start m : Monitor) (turns : ℕ) (piece bytes : List ℕ) : Type 0 where
-  pub watched : Watched start m turns piece
+pub record ReportedFor (start m : Monitor) (turns fed told : ℕ) (piece bytes : List ℕ) : Type 0 where
+  pub watched : Watched start m turns fed told piece
   pub room : ℕ
   pub enough : outboxNeeded ≤ room
   pub same : bytes ≡ (runs room m piece) .reports

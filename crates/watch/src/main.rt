@@ -12,6 +12,7 @@ use cycle::answer::Answer;
 use feed::call::Monitor;
 use feed::size::MAP;
 use libc::types::timespec;
+use std::num::wrapping_add_usize;
 
 // What became of a line: bytes went over it; it has ended or failed; or it was tried so often that no count can hold more.
 enum Line {
@@ -106,9 +107,18 @@ fn read_ready(buf: &mut [u8]) -> Moved
     }
 }
 
-// Writes reports, all of them: those of the monitor m for this piece. Nothing else is ever written.
-fn write_reports(start: Monitor, m: Monitor, turns: u64, piece: &[u8], reports: &[u8]) -> Moved
-    requires { ⌜ ReportedFor start m turns (now piece) (now reports) ⌝ }
+// Writes reports, all of them: those of the monitor m for this piece. Nothing else is ever written. The other parameters are for the
+// `requires` alone: the monitor at the start, the turns made, the feed bytes read and the report bytes written before.
+fn write_reports(
+    start: Monitor,
+    m: Monitor,
+    turns: u64,
+    fed: usize,
+    told: usize,
+    piece: &[u8],
+    reports: &[u8],
+) -> Moved
+    requires { ⌜ ReportedFor start m turns fed told (now piece) (now reports) ⌝ }
     ensures { λ r. ⌜ Written (length (now (reports .entry))) r ⌝ }
 {
     let mut done: usize = 0;
@@ -192,7 +202,8 @@ fn ended_at(over: Why, turns: u64, moved: Moved) -> Ended
 }
 
 // Watches: runs the monitor over what has been read, writes its reports, and reads on, from a fresh monitor and a buffer that holds the map
-// and perhaps feed bytes behind it.
+// and perhaps feed bytes behind it. `fed` and `told` count feed bytes read and report bytes written, round in a word: so no turn can leave
+// any out.
 fn watched(start: Monitor, input: &mut [u8], read: usize, out: &mut [u8]) -> Ended
     requires { ⌜ Fresh start ⌝ }
     requires { ⌜ (mapLength ≤ read) × (read ≤ length (now input)) ⌝ }
@@ -203,14 +214,17 @@ fn watched(start: Monitor, input: &mut [u8], read: usize, out: &mut [u8]) -> End
     let mut at: usize = MAP;
     let mut n = read;
     let mut turns: u64 = 0;
+    let mut fed: usize = read - MAP;
+    let mut told: usize = 0;
     while turns < u64::MAX {
         let r = m.run(&input[at..n], out);
         let w = r.written;
-        let put = write_reports(start, m, turns, &input[at..n], &out[..w]);
+        let put = write_reports(start, m, turns, fed, told, &input[at..n], &out[..w]);
         let output = put.line;
         let Line::Open = output else {
             return ended_at(Why::OutputOver, turns, put);
         };
+        told = wrapping_add_usize(told, put.bytes);
         let next = r.monitor;
         m = next;
         at += r.used;
@@ -222,6 +236,7 @@ fn watched(start: Monitor, input: &mut [u8], read: usize, out: &mut [u8]) -> End
             };
             n = got.bytes;
             at = 0;
+            fed = wrapping_add_usize(fed, n);
         }
         turns += 1;
     }

@@ -4,11 +4,11 @@ use mathlib.Core.Path.{_≡_, refl, sym, ap, subst, _∙_}
 use mathlib.Core.Bool.{Bool, true, false, not}
 use mathlib.Core.Logic.{⊎-elim, inl, inr}
 use borrow.Author.Needs.{needs}
-use Prim.Native.Nat.{_+_, _-_, _≤_}
+use Prim.Native.Nat.{ℕ, _+_, _-_, _≤_, _%_, _^_}
 use native.Mathlib.Omega.{arith}
-use lib.ListN.{length, take, drop, length-take}
+use lib.ListN.{length, take, drop, length-take, length-drop}
 use lib.Seq.{length-take-le}
-use Rattle.feed.specs.Size.{outboxNeeded}
+use Rattle.feed.specs.Size.{mapLength, outboxNeeded}
 use Rattle.feed.proofs.Calls.RunLaws.{runs-within}
 use Rattle.feed.proofs.Calls.Running.{written-within}
 use Rattle.watch.specs.Lines.{largestCount}
@@ -19,12 +19,12 @@ use Rattle.watch.proofs.watched.Statement.{statement}
 use Rattle.watch.proofs.watched.Tie as tie
 
 abbrev Inv-loop : tie.InvT-loop
-Inv-loop start input₀ read out₀ m₀ at₀ n₀ turns₀ input out m at n turns =
+Inv-loop start input₀ read out₀ m₀ at₀ n₀ turns₀ fed₀ told₀ input out m at n turns fed told =
     (length input ≡ length input₀) × (length out ≡ length out₀) × (at ≤ n) × (n ≤ length input) × (turns ≤ largestCount)
-    × Watched start m turns (take (n - at) (drop at input))
+    × Watched start m turns fed told (take (n - at) (drop at input))
 
 abbrev μ-loop : tie.MeasureT-loop
-μ-loop start input₀ read out₀ m₀ at₀ n₀ turns₀ input out m at n turns = largestCount - turns
+μ-loop start input₀ read out₀ m₀ at₀ n₀ turns₀ fed₀ told₀ input out m at n turns fed told = largestCount - turns
 
 -- where the test `!r.more` held
 not-true : (b : Bool) → not b ≡ true → b ≡ false
@@ -34,7 +34,11 @@ not-true false e = refl
 loop-holds : tie.Need-loop-holds Inv-loop μ-loop
 loop-holds c =
     let a = c .before .before in
-    (refl, refl, a .pre .1 .0 .0, a .pre .1 .0 .1, omega arith, begins (a .args .start) (a .pre .0) _)
+    let left = take (a .args .read - mapLength) (drop mapLength (a .args .input .now)) in
+    let there = a .pre .1 .0 in
+    let long : length left ≡ a .args .read - mapLength = simp (length-take, length-drop) (omega (arith, there)) in
+    let fed : a .args .read - mapLength ≡ length left % 2 ^ 64 = omega (arith, long, a .fits .read .fits) in
+    (refl, refl, there .0, there .1, omega arith, begins (a .args .start) (a .pre .0) _ left fed)
 
 -- there is room for a call
 room : (c : tie.After-run Inv-loop μ-loop) → outboxNeeded ≤ length (c .before .before .before .before .before .loop .out)
@@ -72,8 +76,8 @@ write-reports-requires c κs =
     let at-run = c .before .before .before .before .before in
     let at-loop = at-run .before .before .before .before .before in
     let l = at-loop .loop in
-    reported (at-loop .before .before .before .args .start) (l .m) (l .turns) (l .at) (l .n) (l .input) (l .out) (at-run .run .result)
-    (at-run .run .last .1 .1 .0) (l .inv .5) (room at-run) (at-run .run .ensures)
+    reported (at-loop .before .before .before .args .start) (l .m) (l .turns) (l .fed) (l .told) (l .at) (l .n) (l .input) (l .out)
+    (at-run .run .result) (at-run .run .last .1 .1 .0) (l .inv .5) (room at-run) (at-run .run .ensures)
 
 ended-at-requires : tie.Need-ended-at-requires Inv-loop μ-loop
 ended-at-requires c κs = (inr refl, c .before .write-reports .ensures .told .tried)
@@ -83,14 +87,14 @@ returns c = c .ended-at .ensures
 
 add-at : tie.Need-add-at Inv-loop μ-loop
 add-at c =
-    let at-run = c .before .before .before .before .before .before .before .before .before .before in
+    let at-run = c .before .before .before .before .before .before .before .before .before .before .before in
     let at-loop = at-run .before .before .before .before .before in
     omega (arith, run-used at-run, at-loop .loop .inv)
 
 read-ready-requires : tie.Need-read-ready-requires Inv-loop μ-loop
 read-ready-requires c κs =
     let at-loop = c .before .before .before .before .before .before .before .before .before .before .before .before .before .before
-    .before .before .before .before in
+    .before .before .before .before .before in
     omega (arith, at-loop .loop .inv .0, at-loop .before .before .before .pre .1 .0)
 
 ended-at-requires-2 : tie.Need-ended-at-requires-2 Inv-loop μ-loop
@@ -98,7 +102,7 @@ ended-at-requires-2 c κs = (inl refl, c .before .before .before .read-ready .en
 
 -- the run whose bytes were used up before a read
 abbrev before-read : tie.After-read-ready Inv-loop μ-loop → tie.After-run Inv-loop μ-loop
-before-read c = c .before .before .before .before .before .before .before .before .before .before .before .before .before .before
+before-read c = c .before .before .before .before .before .before .before .before .before .before .before .before .before .before .before
 
 same-length-3 : tie.Need-same-length-3 Inv-loop μ-loop
 same-length-3 c =
@@ -115,32 +119,42 @@ returns-2 c = c .ended-at2 .ensures
 
 loop-again : tie.Need-loop-again Inv-loop μ-loop
 loop-again c =
-    let at-run = c .before .before .before .before .before .before .before .before .before .before .before .before in
+    let at-wrap = c .before .before .before .before in
+    let at-write = at-wrap .before .before .before in
+    let at-run = at-write .before .before .before .before .before .before in
     let at-loop = at-run .before .before .before .before .before in
     let l = at-loop .loop in
     let start = at-loop .before .before .before .args .start in
     let ran = at-run .run .ensures in
     let outLong = at-run .run .kept .1 .1 .0 ∙ l .inv .1 in
+    let below = at-run .before .before .before .before .loop-test .taken in
+    let all = at-write .write-reports .ensures .all (at-wrap .before .enum-told .given .1) in
+    let told = at-wrap .wrapping-add-usize .ensures in
     ⊎-elim
     (λ w.
-    let long = w .2 .kept .0 ∙ l .inv .0 in (
-      ap length (w .7) ∙ long,
+    let long = w .2 .kept .0 ∙ l .inv .0 in
+    let got = w .2 .ensures .told .within in
+    let next = take (c .if1 .n - c .if1 .at) (drop (c .if1 .at) (c .if1 .input)) in
+    let whole : length next ≡ w .2 .result .bytes =
+    simp (length-take, length-drop) (omega (arith, got, w .9, w .10, ap length (w .8))) in (
+      ap length (w .8) ∙ long,
       outLong,
-      omega (arith, w .8, w .9),
-      omega (arith, w .9, w .2 .ensures .told .within, ap length (w .7)),
-      omega arith,
-      goes-on-read start (l .m) (l .turns) (l .at) (l .n) (l .input) (l .out) (at-run .run .result) (at-run .run .last .1 .1 .0) (l .inv .5)
-          (room at-run) ran (not-true _ (w .0 .taken)) _,
+      omega (arith, w .9, w .10),
+      omega (arith, w .10, got, ap length (w .8)),
+      omega (arith, below),
+      goes-on-read start (l .m) (l .turns) (l .fed) (l .told) (l .at) (l .n) (l .input) (l .out) (at-run .run .result)
+          (at-run .run .last .1 .1 .0) (l .inv .5) (room at-run) ran _ _ (c .if1 .fed) all told (not-true _ (w .0 .taken)) next
+          (w .11 ∙ w .7 .ensures ∙ ap (λ (k : ℕ). (l .fed + k) % 2 ^ 64) (sym whole)),
     ))
     (λ w. (
       ap length (w .1) ∙ l .inv .0,
       outLong,
       omega (arith, w .2, w .3, run-used at-run),
       omega (arith, w .3, l .inv .3, ap length (w .1)),
-      omega arith,
-      at-places start _ _ _ _ _ _ _ _ (w .1) (w .2) (w .3)
-          (goes-on start (l .m) (l .turns) (l .at) (l .n) (l .input) (l .out) (at-run .run .result) (at-run .run .last .1 .1 .0) (l .inv .5)
-          (room at-run) ran (l .inv .2) (l .inv .3) (run-used at-run)),
+      omega (arith, below),
+      at-places start _ _ _ _ _ _ _ _ _ _ _ (w .1) (w .2) (w .3) (w .4)
+          (goes-on start (l .m) (l .turns) (l .fed) (l .told) (l .at) (l .n) (l .input) (l .out) (at-run .run .result)
+          (at-run .run .last .1 .1 .0) (l .inv .5) (room at-run) ran _ _ all told (l .inv .2) (l .inv .3) (run-used at-run)),
     ))
     (c .if1 .came)
 
@@ -150,8 +164,8 @@ returns-3 c = ended-turned _ _ (omega arith)
 pub watched-spec : {M : Type 1} → statement M
 watched-spec =
     tie.close
-    (tie.spec Inv-loop μ-loop loop-holds (λ c. search needs) (λ c. search needs) (λ c. search needs) (λ c κs. search needs)
-    (λ c. search needs) (λ c. search needs) (λ c. search needs) slice-reshare-prefix-write-reports slice-aggregate-write-reports
-    write-reports-requires (λ c. search needs) ended-at-requires (λ c. search needs) (λ c. search needs) returns add-at
-    read-ready-requires (λ c. search needs) ended-at-requires-2 same-length-3 same-length-4 returns-2 (λ c. search needs)
-    (λ c. search needs) loop-again (λ c. search needs) (λ c. search needs) returns-3)
+    (tie.spec Inv-loop μ-loop (λ c. search needs) loop-holds (λ c. search needs) (λ c. search needs) (λ c. search needs)
+    (λ c κs. search needs) (λ c. search needs) (λ c. search needs) (λ c. search needs) slice-reshare-prefix-write-reports
+    slice-aggregate-write-reports write-reports-requires (λ c. search needs) ended-at-requires (λ c. search needs) (λ c. search needs)
+    returns (λ c κs. search needs) add-at read-ready-requires (λ c. search needs) ended-at-requires-2 same-length-3 same-length-4
+    returns-2 (λ c κs. search needs) (λ c. search needs) (λ c. search needs) loop-again (λ c. search needs) (λ c. search needs) returns-3)

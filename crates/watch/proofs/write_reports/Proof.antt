@@ -10,10 +10,10 @@ use Rattle.watch.proofs.write_reports.Statement.{statement}
 use Rattle.watch.proofs.write_reports.Tie as tie
 
 abbrev Inv-loop : tie.InvT-loop
-Inv-loop turns piece reports done₀ tries₀ done tries = (done ≤ length reports) × (tries ≤ largestCount)
+Inv-loop turns fed told piece reports done₀ tries₀ done tries = (done ≤ length reports) × (tries ≤ largestCount)
 
 abbrev μ-loop : tie.MeasureT-loop
-μ-loop turns piece reports done₀ tries₀ done tries = largestCount - tries
+μ-loop turns fed told piece reports done₀ tries₀ done tries = largestCount - tries
 
 returns : tie.Need-returns Inv-loop μ-loop
 returns c = written-open _ _ _ (omega arith) (c .if1 .taken)
