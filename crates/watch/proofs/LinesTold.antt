@@ -1,5 +1,5 @@
 -- What is said of a line, case by case. Assumes nothing.
-use mathlib.Core.Path.{_≡_, refl}
+use mathlib.Core.Path.{_≡_}
 use Prim.Native.Nat.{ℕ, _≤_, _<_}
 use native.Mathlib.Omega.{arith}
 use Rattle.watch.specs.Lines.{largestCount, Told, Read, Written}

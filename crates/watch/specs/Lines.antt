@@ -1,10 +1,9 @@
 -- What the program does at a line: which failures it tries again, and when it gives a line up. Assumes nothing.
 use mathlib.Core.Path.{_≡_}
-use mathlib.Core.Bool.{Bool, true, false, _||_}
+use mathlib.Core.Bool.{Bool, false, _||_}
 use Prim.Native.Nat.{ℕ, _≤_, _<_}
 use lib.Dec.{eqb}
 use lib.IntN.{ℤ, pos, negsuc}
-use Rattle.watch.specs.declared.Line.{Line}
 use Rattle.watch.specs.declared.Line.the-variants.{Open, OutOfTries}
 use Rattle.watch.specs.declared.Moved.{Moved}
 

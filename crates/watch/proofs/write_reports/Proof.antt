@@ -26,7 +26,6 @@ returns-3 c = written-over _ _ _ (omega arith)
 
 loop-again : tie.Need-loop-again Inv-loop μ-loop
 loop-again c =
-    let at-loop = c .before .before .before .before .before .before in
     ⊎-elim
     (λ w. (omega (arith, simp (length-take, length-drop) at (c .before .count .ensures .0 .0), w), omega arith))
     (λ w. (omega (arith, w), omega arith))
