@@ -127,7 +127,7 @@ pub pieces-finish : (masks : List Masks) (pieces : List (List ℕ)) (cs : List M
     → Finished masks (joined pieces) cs
 pieces-finish = inPieces.pieces-finish
 
--- the step that `watch` repeats over what it has read, `Monitor::run`, is such calls (that `main` repeats it is tested, not proved)
+-- the step that `watch` repeats over what it has read, `Monitor::run`, is such calls (that it repeats it, and writes what it reports: `watch`)
 pub run-is-calls : (masks : List Masks) (feed behind : List ℕ) (room : ℕ) (cs : List Made) (piece : List ℕ)
     → Hands masks feed cs (piece ++ behind) → Continues masks feed cs piece behind room (runs room (monitorAfter masks cs) piece)
 run-is-calls = batch-continues
