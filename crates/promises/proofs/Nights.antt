@@ -47,7 +47,7 @@ nights-hold-of-requests = (refl, (refl, (refl, (refl, tt))))
 
 nights-hold-of-manifolds : EachHolds manifoldNights
 unfolding computed manifoldNights
-nights-hold-of-manifolds = (refl, (refl, (refl, (refl, tt))))
+nights-hold-of-manifolds = (refl, (refl, (refl, (refl, (refl, (refl, tt))))))
 
 nights-hold-of-paths : EachHolds pathNights
 unfolding computed pathNights

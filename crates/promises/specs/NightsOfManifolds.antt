@@ -57,5 +57,33 @@ reenableStaysOnOpening =
     ∷ at 31 0x00 (commanding 0x00000002) 0x00000002 0x00
     ∷ [])
 
+-- An inhibit stays when the valve closes: jet 0 is inhibited while its valve is closed; the valve opens and closes. After the path fault of
+-- 28 the saved set of 25, all four jets, comes back and leaves the fail word at 30: jet 0 is failed by its inhibit
+abbrev pub inhibitStaysOnClosing : Night
+inhibitStaysOnClosing =
+    feeding nightMap
+    (at 24 0x00 (valves 0x0E) 0x0000000F 0x00
+    ∷ at 25 0x00 (requestingAt 0x0E 0x00000001 0x00000000) 0x0000000F 0x00
+    ∷ at 26 0x00 (valves 0x0F) 0x00000001 0x00
+    ∷ at 27 0x00 (valves 0x0E) 0x0000000F 0x00
+    ∷ at 28 0x01 (valves 0x0E) 0x0000000F 0x00
+    ∷ at 29 0x00 (valves 0x0E) 0x0000000F 0x00
+    ∷ at 30 0x00 (valves 0x0F) 0x00000001 0x00
+    ∷ [])
+
+-- Step 3 comes before step 4 and its slots shift, whatever has failed: jet 0 is commanded without pressure from 1 on, its valve being
+-- closed until 3. At 4 it stands in all three slots, and leaves the fail word with the saved set; it fails at 5
+abbrev pub slotsShiftWhileClosed : Night
+slotsShiftWhileClosed =
+    feeding nightMap
+    (at 1 0x00 (commandingAt 0x0E 0x00000001) 0x0000000F 0x00
+    ∷ at 2 0x00 (commandingAt 0x0E 0x00000001) 0x0000000F 0x00
+    ∷ at 3 0x00 (commandingAt 0x0E 0x00000001) 0x0000000F 0x00
+    ∷ at 4 0x00 (commanding 0x00000001) 0x00000000 0x00
+    ∷ at 5 0x00 (commanding 0x00000001) 0x00000001 0x00
+    ∷ [])
+
 unfoldable pub manifoldNights : List Night
-manifoldNights = manifoldsMoveTogether ∷ reenablesOfOneManifoldLapse ∷ inhibitedFailOnOpening ∷ reenableStaysOnOpening ∷ []
+manifoldNights =
+    manifoldsMoveTogether ∷ reenablesOfOneManifoldLapse ∷ reenableStaysOnOpening ∷ inhibitedFailOnOpening ∷ inhibitStaysOnClosing
+    ∷ slotsShiftWhileClosed ∷ []
