@@ -229,7 +229,7 @@ impl Monitor {
         clear(&mut b[count..]);
         let mut used: usize = 0;
         let mut written: usize = 0;
-        while OUTBOX_NEEDED <= out.len() - written {
+        while written + OUTBOX_NEEDED <= out.len() {
             let t = turn(hall, &mut b[..], count, piece, used, &mut out[written..]);
             let next = t.hall;
             hall = next;

@@ -1,13 +1,13 @@
 -- `feed::call::Monitor::run` meets its contract. Assumes nothing.
 use mathlib.Core.Path.{_≡_, sym, _∙_}
 use mathlib.Core.List.{List}
-use Prim.Native.Nat.{ℕ, _-_, _≤_}
+use Prim.Native.Nat.{ℕ, _-_, _≤_, _<_}
 use native.Mathlib.Omega.{arith}
 use borrow.Author.Needs.{needs}
 use borrow.Rule.Slice.PartMut.{putMid, same-len-mid}
 use lib.ListN.{length, length-drop}
 use Rattle.bits.proofs.Yes.{not-true, not-no}
-use Rattle.feed.specs.Size.{storeLength, mostHeld}
+use Rattle.feed.specs.Size.{storeLength, mostHeld, outboxNeeded}
 use Rattle.feed.specs.Call.{runs}
 use Rattle.feed.proofs.Reading.Found.{rest-whole}
 use Rattle.feed.proofs.Calls.Calling.{InOrder, put-in-order, held-short}
@@ -77,8 +77,8 @@ loop-holds c = loop-starts (entry (c .before) .args .self) _ _ _ _ (ordered (c .
 within : (c : tie.At-loop Inv-loop μ-loop) → c .loop .written ≤ length (c .loop .out)
 within c = omega (arith, out-long _ _ _ _ _ _ _ _ _ (c .loop .inv), c .loop .inv .room)
 
-sub-loop : tie.Need-sub-loop Inv-loop μ-loop
-sub-loop c = within c
+add-loop : tie.Need-add-loop Inv-loop μ-loop
+add-loop c = omega (arith, within c, out-long _ _ _ _ _ _ _ _ _ (c .loop .inv), entry (c .before .before) .good)
 
 slice-aggregate-turn : tie.Need-slice-aggregate-turn Inv-loop μ-loop
 slice-aggregate-turn c = sym (c .before .before .loop .inv .long)
@@ -114,6 +114,9 @@ head c = c .before .before .before .before
 abbrev left : tie.After-turn Inv-loop μ-loop → List ℕ
 left c = c .turn .last .1 .1 .1 .1 .1 .0
 
+room-left : (c : tie.After-turn Inv-loop μ-loop) → outboxNeeded ≤ length (head c .loop .out) - head c .loop .written
+room-left c = omega (arith, c .before .before .before .loop-test .taken)
+
 same-length : tie.Need-same-length Inv-loop μ-loop
 same-length c =
     let at-turn = turning (c .before) in
@@ -129,7 +132,7 @@ returns-2 c =
     let t = rw rest-whole at (at-turn .turn .ensures) in
     rw (put-rest (l .loop .written) (l .loop .out) (left at-turn) (within l), ← same-run (l .before .before))
     (loop-leaves _ _ _ _ _ _ _ _ _ (l .loop .inv) (at-turn .turn .result) (at-turn .turn .last .1 .0) (left at-turn)
-    (at-turn .before .before .before .loop-test .taken) t (not-true (at-turn .turn .result .settled) (c .if2 .taken)))
+    (room-left at-turn) t (not-true (at-turn .turn .result .settled) (c .if2 .taken)))
 
 add-written : tie.Need-add-written Inv-loop μ-loop
 add-written c =
@@ -161,18 +164,19 @@ loop-again c =
     let t = rw rest-whole at (at-turn .turn .ensures) in
     rw (put-rest (l .loop .written) (l .loop .out) (left at-turn) (within l))
     (loop-goes _ _ _ _ _ _ _ _ _ (l .loop .inv) (at-turn .turn .result) (at-turn .turn .last .1 .0) (left at-turn)
-    (at-turn .before .before .before .loop-test .taken) t (not-no (at-turn .turn .result .settled) (c .if2 .left)))
+    (room-left at-turn) t (not-no (at-turn .turn .result .settled) (c .if2 .left)))
 
 same-length-2 : tie.Need-same-length-2 Inv-loop μ-loop
 same-length-2 c = out-long _ _ _ _ _ _ _ _ _ (c .before .loop .inv)
 
 returns-3 : tie.Need-returns-3 Inv-loop μ-loop
 returns-3 c =
-    rw (← same-run (c .before .before .before)) (loop-ends _ _ _ _ _ _ _ _ _ (c .before .loop .inv) (c .loop-test .left))
+    let full : length (c .before .loop .out) - c .before .loop .written < outboxNeeded = omega (arith, c .loop-test .left) in
+    rw (← same-run (c .before .before .before)) (loop-ends _ _ _ _ _ _ _ _ _ (c .before .loop .inv) full)
 
 pub run-spec : {M : Type 1} → statement M
 run-spec =
     tie.close
-    (tie.spec Inv-loop μ-loop returns (λ c κs. search needs) sub-clear part-b-start part-b-end (λ c κs. search needs) loop-holds sub-loop
+    (tie.spec Inv-loop μ-loop returns (λ c κs. search needs) sub-clear part-b-start part-b-end (λ c κs. search needs) loop-holds add-loop
     slice-aggregate-turn sub-turn part-turn-start (λ c. search needs) turn-requires same-length returns-2 add-written loop-less loop-again
     same-length-2 returns-3)
