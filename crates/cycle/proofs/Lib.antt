@@ -29,3 +29,4 @@ pub mod UnmappedNone
 pub mod UnmappedWords
 pub mod UnmappedAlike
 pub mod ProperSteps
+pub mod TurnsTaken

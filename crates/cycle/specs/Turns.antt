@@ -3,10 +3,17 @@
 use mathlib.Core.Path.{_≡_}
 use mathlib.Core.Bool.{Bool, true, false, not, _&&_, _||_}
 use mathlib.Core.List.{List}
-use Prim.Native.Nat.{ℕ}
-use lib.ListN.{getD}
+use Prim.Native.Nat.{ℕ, _<_}
+use lib.Bits.{bitAnd}
+use lib.ListN.{length, getD}
 use Rattle.bits.specs.Bit.{bit}
-use Rattle.cycle.specs.Words.{Passed}
+use Rattle.cycle.specs.Size.{manifoldCount}
+use Rattle.cycle.specs.Map.{masksOf, mapped}
+use Rattle.cycle.specs.Numbers.{missedCycle, missedMajor}
+use Rattle.cycle.specs.Words.{Passed, recovered, gapped, offFailure}
+use Rattle.cycle.specs.Hall.{sampleOf, stringOf}
+use Rattle.cycle.specs.declared.hall.Hall.{Hall}
+use Rattle.cycle.specs.declared.values.Minor.{Minor}
 use Rattle.cycle.specs.declared.string.StringState.{StringState}
 
 -- manifold i's turn, from the words p to the words q: its valve was remembered as open or not, and is open now or not
@@ -49,3 +56,18 @@ pub record FourTurns (masks : List ℕ) (now : ℕ) (s t : StringState) : Type 0
       × (t .on ≡ s .on)
       × (t .close ≡ s .close)
       × (t .lost ≡ s .lost)
+
+-- ---- in a taken record
+
+-- the arrays of a hall have the lengths that their types fix
+pub record Shaped (h : Hall) : Type 0 where
+  pub strings : length (h .strings) ≡ 4
+  pub saved : (s : ℕ) → s < 4 → length ((stringOf h s) .standing .saved) ≡ 4
+  pub good : (s : ℕ) → s < 4 → length ((stringOf h s) .good .saved) ≡ 4
+
+-- string s of the hall after steps 1 to 3 of the record r, which leads to the number n, its path bit being clear
+abbrev pub beforeTurns : Hall → Minor → ℕ → ℕ → StringState
+beforeTurns h r n s =
+    let x = sampleOf r s in
+    offFailure (bitAnd (mapped manifoldCount (masksOf (h .masks) s)) (x .commanded)) (x .pressure)
+    (gapped (missedCycle (h .n) n) (missedMajor (h .n) n) (recovered (stringOf h s)))

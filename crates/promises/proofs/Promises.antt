@@ -11,14 +11,14 @@ use Prim.Native.Nat.{ℕ, _+_, _*_, _/_, _<_, _≤_}
 use lib.ListN.{length, getD, take}
 use Rattle.bits.specs.Bit.{bit, any}
 use Rattle.cycle.specs.Size.{stringCount, manifoldCount}
-use Rattle.cycle.specs.Answers.{writesReport}
+use Rattle.cycle.specs.Answers.{isTaken, writesReport}
 use Rattle.cycle.specs.Jets.{JetRecord, reached, run, cycle, asksAt}
 use Rattle.cycle.specs.Words.{manifolds}
-use Rattle.cycle.specs.Records.{Record}
-use Rattle.cycle.specs.Hall.{stringOf, stepped}
+use Rattle.cycle.specs.Records.{Record, minor}
+use Rattle.cycle.specs.Hall.{sampleOf, stringOf, stepped}
 use Rattle.cycle.specs.Views.{jetOf}
 use Rattle.cycle.specs.Proper.{ProperHall}
-use Rattle.cycle.specs.Turns.{FourTurns}
+use Rattle.cycle.specs.Turns.{FourTurns, Shaped, beforeTurns}
 use Rattle.cycle.specs.Unmapped.{Alike, UnmappedNone}
 use Rattle.cycle.specs.Map.{masksOf, inMask, FitMap, refused}
 use Rattle.cycle.specs.Close.{Rising, Third}
@@ -27,8 +27,10 @@ use Rattle.cycle.specs.declared.answer.Answer.the-variants.{Taken, NothingSettl
 use Rattle.cycle.specs.declared.hall.Hall.{Hall}
 use Rattle.cycle.specs.declared.map.Masks.{Masks}
 use Rattle.cycle.specs.declared.string.StringState.{StringState}
+use Rattle.cycle.specs.declared.values.Minor.{Minor}
 use Rattle.cycle.proofs.Close.{asks-third}
 use Rattle.cycle.proofs.Turns as turns
+use Rattle.cycle.proofs.TurnsTaken as turning
 use Rattle.cycle.proofs.UnmappedAlike as alike
 use Rattle.feed.specs.Bytes.{four}
 use Rattle.feed.specs.Heard.{Heard, jetHeard}
@@ -195,10 +197,17 @@ module _ (m : Monitor) (piece out : List ℕ) (proper : ProperHall (m .hall)) (t
       && asksAt (m .hall .n) (jetHeard s i j newest) (jetOf i j (stringOf (m .hall) s))))
   close-steps = handed.close-steps m piece out proper taken s i string manifold
 
--- Step 4 of any string, also with overlapping masks and saved sets beyond them: the manifolds' turns, lowest first.
+-- Step 4 of any string, also with overlapping masks and saved sets beyond them: the manifolds' turns, lowest first; and so a minor record that
+-- any hall takes, string by string.
 pub four-turns : (masks : List ℕ) (now : ℕ) (s : StringState) → length (s .standing .saved) ≡ 4
     → FourTurns masks now s (manifolds manifoldCount masks now s)
 four-turns = turns.four-turns
+
+pub turns-taken : (h : Hall) → Shaped h → (r : Minor) (s : ℕ) → s < 4 → bit s (r .path) ≡ false
+    → isTaken ((stepped (minor r) h) .answer) ≡ true
+    → FourTurns (masksOf (h .masks) s) ((sampleOf r s) .valves) (beforeTurns h r ((stepped (minor r) h) .hall .n) s)
+    (stringOf ((stepped (minor r) h) .hall) s)
+turns-taken = turning.turns-taken
 
 -- "Bits and temperatures of jets in no mask are ignored everywhere": two records that agree on all but those step every hall alike; and from
 -- fresh their bits are 0 in every state.
