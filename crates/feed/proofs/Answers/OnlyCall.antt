@@ -9,6 +9,7 @@ use lib.Seq.{drop-at}
 use Rattle.cycle.specs.declared.answer.Answer.{Answer}
 use Rattle.cycle.specs.declared.answer.Answer.the-variants.{Taken, Stale, Repeat, CountEnded, WrongKind, OutboxShort, MapRefused}
 use Rattle.cycle.specs.declared.answer.Answer.the-variants.{NothingSettled}
+use Rattle.feed.specs.Size.{outboxNeeded, reportLength}
 use Rattle.feed.specs.Good.{WholeRecord}
 use Rattle.feed.specs.Report.{reportOf}
 use Rattle.feed.specs.Settled.{recordIn}
@@ -138,12 +139,12 @@ module _ (m : Monitor) (piece out : List ℕ) where
       → x .outcome .answer ≡ y .outcome .answer → AsBefore a m out x → AsBefore a m out y → x ≡ y
   refused-same a x y some p q answer l k = settled-same x y some p q answer (l .0 ∙ sym (k .0)) (l .1 ∙ sym (k .1))
 
-  result-by : (a : Answer) (x y : Result) → When a → (34 ≤ length out → Read m piece x) → (34 ≤ length out → Read m piece y)
+  result-by : (a : Answer) (x y : Result) → When a → (outboxNeeded ≤ length out → Read m piece x) → (outboxNeeded ≤ length out → Read m piece y)
       → x .outcome .answer ≡ y .outcome .answer → Leaves a m piece out x → Leaves a m piece out y → x ≡ y
   result-by Taken x y c p q e l k =
       let hall : x .outcome .monitor .hall ≡ y .outcome .monitor .hall = l .0 ∙ sym (k .0) in
       settled-same x y (c .1 .settled) (p (c .0)) (q (c .0)) e hall
-      (l .2 ∙ ap (λ h. reportOf Taken h ++ drop 34 out) hall ∙ sym (k .2))
+      (l .2 ∙ ap (λ h. reportOf Taken h ++ drop reportLength out) hall ∙ sym (k .2))
   result-by Stale x y c p q e l k = refused-same Stale x y (c .1) (p (c .0)) (q (c .0)) e l k
   result-by Repeat x y c p q e l k = refused-same Repeat x y (c .1) (p (c .0)) (q (c .0)) e l k
   result-by CountEnded x y c p q e l k = refused-same CountEnded x y (c .1 .settled) (p (c .0)) (q (c .0)) e l k
@@ -158,7 +159,7 @@ pub only-call : (f : Monitor → List ℕ → List ℕ → Result)
     → ((m : Monitor) (piece out : List ℕ) (a : Answer)
     → ((f m piece out) .outcome .answer ≡ a) ↔ Condition a (m .hall) (length out) (recordIn (holds m ++ piece)))
     → ((m : Monitor) (piece out : List ℕ) → Leaves ((f m piece out) .outcome .answer) m piece out (f m piece out))
-    → ((m : Monitor) (piece out : List ℕ) → 34 ≤ length out → Read m piece (f m piece out))
+    → ((m : Monitor) (piece out : List ℕ) → outboxNeeded ≤ length out → Read m piece (f m piece out))
     → (m : Monitor) (piece out : List ℕ) → f m piece out ≡ call m piece out
 only-call f answers leaves reads m piece out =
     let a : Answer = (call m piece out) .outcome .answer in

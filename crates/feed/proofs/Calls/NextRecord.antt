@@ -10,6 +10,7 @@ use lib.ListN.{length, take, drop, length-append, take-append-drop}
 use lib.Seq.{take-at, take-length, length-take-le}
 use Rattle.cycle.specs.Answers.{writesReport}
 use Rattle.cycle.specs.declared.answer.Answer.the-variants.{NothingSettled}
+use Rattle.feed.specs.Size.{outboxNeeded}
 use Rattle.feed.specs.Good.{WholeRecord}
 use Rattle.feed.specs.Format.{look, lengthShown}
 use Rattle.feed.specs.Reader.{settle}
@@ -27,7 +28,7 @@ use Rattle.feed.proofs.Answers.Answered.{answers-exactly}
 use Rattle.feed.proofs.Answers.Fixed.{condition-answers}
 use Rattle.feed.proofs.Answers.Left.{call-leaves}
 
-module _ (m : Monitor) (piece out r : List ℕ) (whole : WholeRecord r) (room : 34 ≤ length out) where
+module _ (m : Monitor) (piece out r : List ℕ) (whole : WholeRecord r) (room : outboxNeeded ≤ length out) where
   abbrev all : List ℕ
   all = holds m ++ piece
 
@@ -59,7 +60,7 @@ record-alone r w =
 
 -- ---- the call that brings its last byte
 
-module _ (m : Monitor) (x rest out r : List ℕ) (whole : WholeRecord r) (here : holds m ++ x ≡ r) (room : 34 ≤ length out) where
+module _ (m : Monitor) (x rest out r : List ℕ) (whole : WholeRecord r) (here : holds m ++ x ≡ r) (room : outboxNeeded ≤ length out) where
   abbrev piece : List ℕ
   piece = x ++ rest
 
@@ -110,7 +111,7 @@ module _ (m : Monitor) (x rest out r : List ℕ) (whole : WholeRecord r) (here :
 -- ---- a call that does not
 
 module _ (m : Monitor) (piece x out r : List ℕ) (whole : WholeRecord r) (here : holds m ++ (piece ++ x) ≡ r) (more : 0 < length x)
-    (room : 34 ≤ length out) where
+    (room : outboxNeeded ≤ length out) where
   begins : (holds m ++ piece) ++ x ≡ r ++ []
   begins = append-assoc (holds m) piece x ∙ here ∙ sym (append-nil r)
 

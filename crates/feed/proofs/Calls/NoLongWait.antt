@@ -14,7 +14,7 @@ use Rattle.cycle.specs.declared.answer.Answer.the-variants.{Taken, Stale, Repea
 use Rattle.cycle.specs.declared.answer.Answer.the-variants.{NothingSettled}
 use Rattle.cycle.specs.declared.hall.Hall.{Hall}
 use Rattle.cycle.specs.declared.map.Masks.{Masks}
-use Rattle.feed.specs.Size.{outboxNeeded}
+use Rattle.feed.specs.Size.{outboxNeeded, mostHeld}
 use Rattle.feed.specs.Format.{look}
 use Rattle.feed.specs.Good.{WholeRecord}
 use Rattle.feed.specs.Settled.{recordIn}
@@ -75,7 +75,7 @@ same-record r x after rest w v e =
     ∙ take-at x rest (length x) refl
 
 -- a settled record is reported
-pub settled-written : (a : Answer) (h : Hall) (room : ℕ) (r : List ℕ) → 34 ≤ room → 0 < length r → Condition a h room r → writesReport a ≡ true
+pub settled-written : (a : Answer) (h : Hall) (room : ℕ) (r : List ℕ) → outboxNeeded ≤ room → 0 < length r → Condition a h room r → writesReport a ≡ true
 settled-written Taken h room r l some c = refl
 settled-written Stale h room r l some c = refl
 settled-written Repeat h room r l some c = refl
@@ -258,7 +258,7 @@ used-by masks feed (calls {cs} {left} {after} {c} rest room h e f) =
 -- ---- at the end of what has come
 
 module _ (masks : List Masks) (before r after : List ℕ) (cs : List Made) (done : Finished masks (before ++ (r ++ after)) cs)
-    (whole : WholeRecord r) (come : 614 ≤ length (r ++ after)) where
+    (whole : WholeRecord r) (come : mostHeld ≤ length (r ++ after)) where
   abbrev feed : List ℕ
   feed = before ++ (r ++ after)
 

@@ -19,6 +19,7 @@ use Rattle.cycle.specs.declared.hall.Hall.{Hall}
 use Rattle.cycle.specs.declared.map.Masks.{Masks}
 use Rattle.cycle.proofs.Answers.{taken-only}
 use Rattle.cycle.proofs.Overrides.{inhibit-fails, reenable-free}
+use Rattle.feed.specs.Size.{outboxNeeded, stringsFrom, stringPart, countAt}
 use Rattle.feed.specs.Bytes.{four}
 use Rattle.feed.specs.Settled.{recordIn}
 use Rattle.feed.specs.Answered.{Condition, Leaves}
@@ -41,18 +42,18 @@ module _ (masks : List Masks) (fit : FitMap masks) (accepted : refused stringCou
     (w : writesReport (answerOf masks c cs) ≡ true) where
   module _ (s i j : ℕ) (l : s < stringCount) (below : i < manifoldCount) (stands : inMask (masksOf masks s) i j) where
     pub inhibited-failed : (run (jetHistory s i j (takenRecords masks (c ∷ cs)))) .over .inhibit ≡ true
-        → bit j (four (reportIn masks c cs) (7 + 5 * s)) ≡ true
+        → bit j (four (reportIn masks c cs) (stringsFrom + stringPart * s)) ≡ true
     inhibited-failed e =
         reports-tell masks fit accepted c cs w .fail s i j l below stands
         ∙ inhibit-fails (jetHistory s i j (takenRecords masks (c ∷ cs))) e
 
     pub reenabled-good : (run (jetHistory s i j (takenRecords masks (c ∷ cs)))) .over .reenable ≡ true
-        → bit j (four (reportIn masks c cs) (7 + 5 * s)) ≡ false
+        → bit j (four (reportIn masks c cs) (stringsFrom + stringPart * s)) ≡ false
     reenabled-good e =
         reports-tell masks fit accepted c cs w .fail s i j l below stands
         ∙ reenable-free (jetHistory s i j (takenRecords masks (c ∷ cs))) e
 
-  pub number-shown : four (reportIn masks c cs) 3 ≡ (monitorAfter masks (c ∷ cs)) .hall .n
+  pub number-shown : four (reportIn masks c cs) countAt ≡ (monitorAfter masks (c ∷ cs)) .hall .n
   number-shown =
       let kept = calls-kept masks fit accepted (c ∷ cs) in
       reports-tell masks fit accepted c cs w .number ∙ sym (kept .run .told .number ∙ reached-carried (kept .carry))
@@ -67,7 +68,7 @@ module _ (m : Monitor) (piece out : List ℕ) where
   after = (call m piece out) .outcome .monitor
 
   -- a record was answered, so there was room
-  room-for : (a : Answer) → writesReport a ≡ true → Condition a (m .hall) (length out) (recordIn (holds m ++ piece)) → 34 ≤ length out
+  room-for : (a : Answer) → writesReport a ≡ true → Condition a (m .hall) (length out) (recordIn (holds m ++ piece)) → outboxNeeded ≤ length out
   room-for Taken w c = c .0
   room-for Stale w c = c .0
   room-for Repeat w c = c .0
