@@ -5,7 +5,7 @@ use mathlib.Core.List.{List, [], _∷_}
 use mathlib.Core.Logic.{_⊎_}
 use Prim.Native.Nat.{ℕ, _+_, _<_, _≤_, _%_}
 use Rattle.bits.specs.Bit.{bit}
-use Rattle.cycle.specs.Size.{jetCount, majorEvery}
+use Rattle.cycle.specs.Size.{majorEvery}
 use Rattle.cycle.specs.Jets.{JetRecord, isBad, reached, run}
 
 -- some record, with those taken before it, is so
@@ -45,6 +45,6 @@ EverThird h = Some Third h
 -- it is so of one of the jets of `mask`, jet j with the history `history j`
 pub record JetThird (mask : ℕ) (history : ℕ → List JetRecord) : Type 0 where
   pub jet : ℕ
-  pub inWord : jet < jetCount
+  pub inWord : jet < 32
   pub inMask : bit jet mask ≡ true
   pub third : EverThird (history jet)

@@ -4,6 +4,7 @@ pub mod UniqueCycle
 pub mod UniqueFeedReader
 pub mod UniqueFeedCall
 pub mod Contracts
+pub mod ContractsParts
 pub mod Nights
 pub mod InstanceReads
 pub mod InstanceSteps

@@ -19,6 +19,7 @@ use Rattle.feed.specs.Report.{headOf, stringBytes, stringsBytes, balanceOf, les
 use Rattle.feed.specs.Call.{startedOver, called, call}
 use Rattle.promises.specs.Instance.{warmWords}
 use Rattle.promises.specs.NightHolds.{Night, EachHolds, outcomes, beforeRefusals, afterRefusals, calls, cycles}
+use Rattle.promises.specs.NightsOfJets.{jetNights}
 use Rattle.promises.specs.NightsOfRequests.{requestNights}
 use Rattle.promises.specs.NightsOfManifolds.{manifoldNights}
 use Rattle.promises.specs.NightsOfPaths.{pathNights}
@@ -41,6 +42,10 @@ nights-hold-starred : EachHolds starredNights
 unfolding computed starredNights
 nights-hold-starred = (refl, (refl, (refl, (refl, (refl, (refl, (refl, (refl, (refl, tt)))))))))
 
+nights-hold-of-jets : EachHolds jetNights
+unfolding computed jetNights
+nights-hold-of-jets = (refl, (refl, tt))
+
 nights-hold-of-requests : EachHolds requestNights
 unfolding computed requestNights
 nights-hold-of-requests = (refl, (refl, (refl, (refl, tt))))
@@ -51,7 +56,7 @@ nights-hold-of-manifolds = (refl, (refl, (refl, (refl, (refl, (refl, tt))))))
 
 nights-hold-of-paths : EachHolds pathNights
 unfolding computed pathNights
-nights-hold-of-paths = (refl, (refl, (refl, (refl, (refl, (refl, tt))))))
+nights-hold-of-paths = (refl, (refl, (refl, (refl, (refl, (refl, (refl, tt)))))))
 
 nights-hold-of-lost-valves : EachHolds lostValveNights
 unfolding computed lostValveNights
@@ -65,6 +70,7 @@ pub nights-hold : EachHolds nights
 unfolding nights
 nights-hold =
     both-hold starredNights _ nights-hold-starred
+    (both-hold jetNights _ nights-hold-of-jets
     (both-hold requestNights _ nights-hold-of-requests
     (both-hold manifoldNights _ nights-hold-of-manifolds
-    (both-hold pathNights lostValveNights nights-hold-of-paths nights-hold-of-lost-valves)))
+    (both-hold pathNights lostValveNights nights-hold-of-paths nights-hold-of-lost-valves))))

@@ -40,6 +40,11 @@ quiet = record { sample = quietSample; requests = noRequests }
 abbrev pub commanding : ℕ → Said
 commanding jets = record { sample = sampleWith jets 0 0x0F; requests = noRequests }
 
+-- jets commanded, those that have pressure, and the drivers that are on
+abbrev pub firing : ℕ → ℕ → ℕ → Said
+firing commanded pressure driver =
+    record { sample = record { commanded = commanded; pressure = pressure; driver = driver; valves = 0x0F }; requests = noRequests }
+
 -- drivers on, without command
 abbrev pub driving : ℕ → Said
 driving jets = record { sample = sampleWith 0 jets 0x0F; requests = noRequests }
@@ -72,7 +77,7 @@ abbrev pub saidBytes : Said → List ℕ
 saidBytes x =
     inFour (x .sample .commanded) ++ inFour (x .sample .pressure) ++ inFour (x .sample .driver) ++ (x .sample .valves ∷ [])
 
--- "wire cycle, 2 bytes; path byte; for each string 13 bytes": strings 2 and 3 are quiet
+-- "wire cycle, 2 bytes; path byte (..); for each string 13 bytes: ..": strings 2 and 3 are quiet
 abbrev pub commonPart : ℕ → ℕ → Said → Said → List ℕ
 commonPart wire path first second =
     inTwo wire ++ (path ∷ saidBytes first) ++ saidBytes second ++ saidBytes quiet ++ saidBytes quiet

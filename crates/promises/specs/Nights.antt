@@ -11,6 +11,7 @@ use Rattle.cycle.specs.declared.values.Quantities.{Quantities}
 use Rattle.promises.specs.NightRecords.{nightMap, sampleWith, quietSample, quietTemperatures, quietQuantities}
 use Rattle.promises.specs.NightRecords.{minorWith, recordWith, recordOfSample, atMajors, keeping}
 use Rattle.promises.specs.NightHolds.{Exchange, Night, stepping, feeding, reportWith, reportOfString, since, cycles}
+use Rattle.promises.specs.NightsOfJets.{jetNights}
 use Rattle.promises.specs.NightsOfRequests.{requestNights}
 use Rattle.promises.specs.NightsOfManifolds.{manifoldNights}
 use Rattle.promises.specs.NightsOfPaths.{pathNights}
@@ -132,4 +133,4 @@ starredNights =
 
 -- the single list: those that 01 marks, and those that pin each step where no law does
 unfoldable pub nights : List Night
-nights = starredNights ++ (requestNights ++ (manifoldNights ++ (pathNights ++ lostValveNights)))
+nights = starredNights ++ (jetNights ++ (requestNights ++ (manifoldNights ++ (pathNights ++ lostValveNights))))

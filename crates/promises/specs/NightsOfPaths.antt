@@ -84,6 +84,18 @@ requestsLostUnderFault =
     ∷ atBoth 100 0x00 quiet quiet (shows 0x00000002 0x00) (shows 0x00000000 0x00)
     ∷ [])
 
+-- 1. "nothing else of the string changes", 8: the good copy is not taken under a fault: jet 0 failed off at 3, and the major of 25 comes with
+-- the path bit set. At 26 the fail word of before comes back, without jet 0
+abbrev pub noCopyUnderFault : Night
+noCopyUnderFault =
+    feeding nightMap
+    (at 1 0x00 (commanding 0x00000001) 0x00000000 0x00
+    ∷ at 2 0x00 (commanding 0x00000001) 0x00000000 0x00
+    ∷ at 3 0x00 (commanding 0x00000001) 0x00000001 0x00
+    ∷ at 25 0x01 quiet 0x00000001 0x00
+    ∷ at 26 0x00 quiet 0x00000000 0x00
+    ∷ [])
+
 -- 1. "off slots, on slots and recheck word become 0": jet 0 is commanded without pressure from 1 on, with a path fault at 3: it fails at 6,
 -- not at 4 or 5. Jet 1 is bad at 25, 50 and 75, with a fault at 26: it fails at 75, not at 50. With a fault at 76 it is not rechecked
 -- at 100
@@ -109,4 +121,4 @@ slotsEmptyAfterFault =
 unfoldable pub pathNights : List Night
 pathNights =
     goodCopyAfterRequests ∷ goodCopyAfterOnFailure ∷ oneStringRecovers ∷ overridesStayOverFault ∷ requestsLostUnderFault
-    ∷ slotsEmptyAfterFault ∷ []
+    ∷ noCopyUnderFault ∷ slotsEmptyAfterFault ∷ []

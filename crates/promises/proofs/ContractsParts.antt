@@ -1,0 +1,92 @@
+-- The same link for the parts that a program may call by themselves: whatever the contract allows is the outcome of the definition that the
+-- front door reaches, or that stands beside it. Assumes nothing.
+use mathlib.Core.Path.{_≡_}
+use denote.Ref.{now}
+use Rattle.bits.specs.Bit.{bit, withBit}
+use Rattle.bits.specs.Bit as bits
+use Rattle.cycle.specs.Size.{manifoldCount}
+use Rattle.cycle.specs.Answers.{numberOf}
+use Rattle.cycle.specs.Map.{noMasks, mapped}
+use Rattle.cycle.specs.Numbers as numbers
+use Rattle.cycle.specs.Hall.{freshHall, started, minorTaken, majorTaken}
+use Rattle.feed.specs.Bytes.{two, four, inTwo, inFour, putOver}
+use Rattle.feed.specs.Format.{sumOf}
+use Rattle.feed.specs.Settled.{frontOf}
+use Rattle.feed.specs.Report.{fitsIn, reportOver}
+use Rattle.promises.specs.Outcomes.{Says}
+use Rattle.bits.proofs.without as without
+use Rattle.bits.proofs.has as has
+use Rattle.bits.proofs.«with_bit» as with-bit
+use Rattle.bits.proofs.meets as meets
+use Rattle.cycle.proofs.answer.Answer.number as answer-number
+use Rattle.cycle.proofs.map.Masks.none as masks-none
+use Rattle.cycle.proofs.map.Masks.mapped as masks-mapped
+use Rattle.cycle.proofs.number.judged as judged
+use Rattle.cycle.proofs.hall.Hall.fresh as hall-fresh
+use Rattle.cycle.proofs.hall.Hall.«minor_taken» as hall-minor-taken
+use Rattle.cycle.proofs.hall.Hall.«major_taken» as hall-major-taken
+use Rattle.cycle.proofs.hall.start as start
+use Rattle.feed.proofs.bytes.«read_two» as read-two
+use Rattle.feed.proofs.bytes.«read_four» as read-four
+use Rattle.feed.proofs.bytes.«put_two» as put-two
+use Rattle.feed.proofs.bytes.«put_four» as put-four
+use Rattle.feed.proofs.format.sum as sum
+use Rattle.feed.proofs.reader.«find_front» as find-front
+use Rattle.feed.proofs.report.«put_report» as put-report
+
+pub without-is : Says without.ended without.Reads.Post (λ κs a x w. x ≡ bits.without (a .0) (a .1 .0))
+without-is κs a x w p = p
+
+pub has-is : Says has.ended has.Reads.Post (λ κs a x w. x ≡ bit (a .1 .0) (a .0))
+has-is κs a x w p = p
+
+pub with-bit-is : Says with-bit.ended with-bit.Reads.Post (λ κs a x w. x ≡ withBit (a .0) (a .1 .0) (a .1 .1 .0))
+with-bit-is κs a x w p = p
+
+pub meets-is : Says meets.ended meets.Reads.Post (λ κs a x w. x ≡ bits.meets (a .0) (a .1 .0))
+meets-is κs a x w p = p
+
+pub answer-number-is : Says answer-number.ended answer-number.Reads.Post (λ κs a x w. x ≡ numberOf (a .0))
+answer-number-is κs a x w p = p
+
+pub masks-none-is : Says masks-none.ended masks-none.Reads.Post (λ κs a x w. x ≡ noMasks)
+masks-none-is κs a x w p = p
+
+pub masks-mapped-is : Says masks-mapped.ended masks-mapped.Reads.Post (λ κs a x w. x ≡ mapped manifoldCount (a .0 .words))
+masks-mapped-is κs a x w p = p
+
+pub judged-is : Says judged.ended judged.Reads.Post (λ κs a x w. x ≡ numbers.judged (a .0) (a .1 .0) (a .1 .1 .0))
+judged-is κs a x w p = p
+
+pub hall-fresh-is : Says hall-fresh.ended hall-fresh.Reads.Post (λ κs a x w. x ≡ freshHall (a .0))
+hall-fresh-is κs a x w p = p
+
+pub hall-minor-taken-is : Says hall-minor-taken.ended hall-minor-taken.Reads.Post (λ κs a x w. x ≡ minorTaken (a .1 .0) (a .1 .1 .0) (a .0))
+hall-minor-taken-is κs a x w p = p
+
+pub hall-major-taken-is : Says hall-major-taken.ended hall-major-taken.Reads.Post (λ κs a x w. x ≡ majorTaken (a .1 .0) (a .0))
+hall-major-taken-is κs a x w p = p
+
+pub start-is : Says start.ended start.Reads.Post (λ κs a x w. x ≡ started (a .0))
+start-is κs a x w p = p
+
+pub read-two-is : Says read-two.ended read-two.Reads.Post (λ κs a x w. x ≡ two (now (a .0)) (a .1 .0))
+read-two-is κs a x w p = p
+
+pub read-four-is : Says read-four.ended read-four.Reads.Post (λ κs a x w. x ≡ four (now (a .0)) (a .1 .0))
+read-four-is κs a x w p = p
+
+pub put-two-is : Says put-two.ended put-two.Reads.Post (λ κs a x w. w .0 ≡ putOver (inTwo (a .1 .0)) (now (a .0)))
+put-two-is κs a x w p = p
+
+pub put-four-is : Says put-four.ended put-four.Reads.Post (λ κs a x w. w .0 ≡ putOver (inFour (a .1 .0)) (now (a .0)))
+put-four-is κs a x w p = p
+
+pub sum-is : Says sum.ended sum.Reads.Post (λ κs a x w. x ≡ sumOf (now (a .0)))
+sum-is κs a x w p = p
+
+pub find-front-is : Says find-front.ended find-front.Reads.Post (λ κs a x w. x ≡ frontOf (now (a .0)))
+find-front-is κs a x w p = p
+
+pub put-report-is : Says put-report.ended put-report.Reads.Post (λ κs a x w. (x ≡ fitsIn (now (a .0))) × (w .0 ≡ reportOver (a .1 .0) (a .1 .1 .0) (now (a .0))))
+put-report-is κs a x w p = p
