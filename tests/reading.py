@@ -1,7 +1,7 @@
 #!/usr/bin/env python3
-"""What has to be believed: the definitions that the statements of the front door and of what people rely on name, those that these name in
-turn, and so on; and the same from the contracts of public functions. The kit's own names are left out. Run by itself it prints the rows of the tables in
-docs/CLAIMS.md."""
+"""What has to be believed: the definitions that the statements of the front door and of what people rely on name, those that these name
+in turn, and so on; and the same from the contracts of public functions. The kit's own names are left out. Run by itself it prints the
+rows of the tables in docs/CLAIMS.md."""
 import functools
 import pathlib
 import re

@@ -1,5 +1,5 @@
--- What a night keeper relies on, jet by jet, after every history: an inhibit in force fails the jet, a re-enable in force keeps it good, and
--- the two are never in force together. Assumes nothing.
+-- What a night keeper relies on, jet by jet, after every history: an inhibit in force fails the jet, a re-enable in force keeps it good,
+-- and the two are never in force together. Assumes nothing.
 use mathlib.Core.Path.{_≡_, refl, sym, ap, _∙_}
 use mathlib.Core.Bool.{Bool, true, false, not, _&&_, _||_}
 use mathlib.Core.List.{List, [], _∷_}
@@ -96,7 +96,8 @@ requested-minded false true s x = record { inhibitFails = λ e. e; reenableFree 
 requested-minded false false s x = x
 
 -- "Jets in both, not re-enabled, join the fail word"
-joined-minded : (inhibit reenable fail both : Bool) → Minded inhibit reenable fail → Minded inhibit reenable (fail || (both && not reenable))
+joined-minded : (inhibit reenable fail both : Bool) → Minded inhibit reenable fail
+    → Minded inhibit reenable (fail || (both && not reenable))
 joined-minded inhibit true fail both x = record {
   inhibitFails = λ e. ap (λ (f : Bool). f || (both && false)) (x .inhibitFails e);
   reenableFree = λ e. ap (λ (f : Bool). f || (both && false)) (x .reenableFree refl) ∙ and-false both;

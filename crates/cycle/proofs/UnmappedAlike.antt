@@ -65,7 +65,8 @@ alike-string masks a b alike s l = record {
     says-of r i j = jetSays 0 (bit s ((common r) .path)) i j (sampleOf (common r) s) (requestsOf r s) (temperaturesOf r s)
 
     same : (j : ℕ) (e : bit j (mapped manifoldCount (masksOf masks s)) ≡ true)
-        → says-of a (mapped-found (masksOf masks s) j manifoldCount e .0) j ≡ says-of b (mapped-found (masksOf masks s) j manifoldCount e .0) j
+        → says-of a (mapped-found (masksOf masks s) j manifoldCount e .0) j
+        ≡ says-of b (mapped-found (masksOf masks s) j manifoldCount e .0) j
     same j e =
         let x = mapped-found (masksOf masks s) j manifoldCount e in
         sym (says a s (x .0) j) ∙ alike .jets s (x .0) j l (x .1) (x .2) ∙ says b s (x .0) j

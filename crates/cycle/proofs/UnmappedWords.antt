@@ -127,7 +127,8 @@ module _ (masks : List ℕ) (x y : Sample) (p q : Requests) (t u : Temperatures)
       ∙ sym (bit-or j (y .driver) (leakWord u)))
       (alike .commanded)
 
-  major-steps-same : (s : StringState) → majorSteps manifoldCount masks x (leakWord t) p s ≡ majorSteps manifoldCount masks y (leakWord u) q s
+  major-steps-same : (s : StringState)
+      → majorSteps manifoldCount masks x (leakWord t) p s ≡ majorSteps manifoldCount masks y (leakWord u) q s
   unfolding majorSteps
   major-steps-same s =
       ap₂ (λ (bad : ℕ) (z : StringState). kept (onFailure bad (rechecked manifoldCount masks bad z))) bad-same

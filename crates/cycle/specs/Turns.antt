@@ -1,5 +1,5 @@
--- Step 4 for any string at all, "stepped by these rules as it stands": masks may overlap, and a saved set may go beyond its mask. Bit by bit,
--- manifold by manifold, "lowest first". Assumes nothing.
+-- Step 4 for any string at all, "stepped by these rules as it stands": masks may overlap, and a saved set may go beyond its mask. Bit by
+-- bit, manifold by manifold, "lowest first". Assumes nothing.
 use mathlib.Core.Path.{_≡_}
 use mathlib.Core.Bool.{Bool, true, false, not, _&&_, _||_}
 use mathlib.Core.List.{List}

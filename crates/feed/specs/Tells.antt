@@ -14,8 +14,8 @@ use Rattle.feed.specs.Bytes.{two, four}
 use Rattle.feed.specs.Heard.{Heard, reachedBy, jetHistory, bankHeard}
 
 -- "Report, 34 bytes: 52 52; answer; n after it (4); for each string the fail word (4) and close byte (1); balance byte; three lesser
--- quantities (2 each)." Each bit of it by the run of `Jets` from fresh over the jet's own values in the records taken. Four strings, each of
--- 32 jets and four manifolds, and three modules: the counts are written as document 01 writes them, so that no other is proved.
+-- quantities (2 each)." Each bit of it by the run of `Jets` from fresh over the jet's own values in the records taken. Four strings, each
+-- of 32 jets and four manifolds, and three modules: the counts are written as document 01 writes them, so that no other is proved.
 pub record Tells (masks : List Masks) (a : Answer) (ts : List Heard) (report : List ℕ) : Type 0 where
   pub long : length report ≡ 34
   pub byte : (k : ℕ) → getD report k 0 < 256

@@ -88,5 +88,6 @@ sum-is κs a x w p = p
 pub find-front-is : Says find-front.ended find-front.Reads.Post (λ κs a x w. x ≡ frontOf (now (a .0)))
 find-front-is κs a x w p = p
 
-pub put-report-is : Says put-report.ended put-report.Reads.Post (λ κs a x w. (x ≡ fitsIn (now (a .0))) × (w .0 ≡ reportOver (a .1 .0) (a .1 .1 .0) (now (a .0))))
+pub put-report-is : Says put-report.ended put-report.Reads.Post
+    (λ κs a x w. (x ≡ fitsIn (now (a .0))) × (w .0 ≡ reportOver (a .1 .0) (a .1 .1 .0) (now (a .0))))
 put-report-is κs a x w p = p

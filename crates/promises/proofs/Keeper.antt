@@ -1,6 +1,6 @@
 -- What people rely on: the sentences of docs/NIGHT-KEEPER.md that are more than the rules, each as a theorem about every report from fresh
--- over an accepted map, or about every state. The words of each statement are defined in specs/ of `feed` and `cycle`; each proof is a
--- citation. Assumes nothing.
+-- over an accepted map, about every state, or about every feed. The words of each statement are defined in specs/ of `feed` and `cycle`;
+-- each proof is a citation. Assumes nothing.
 use mathlib.Core.Path.{_≡_, sym, ap, subst}
 use mathlib.Core.Bool.{true, false, _&&_}
 use mathlib.Core.List.{List, [], _∷_, _++_, append-nil}

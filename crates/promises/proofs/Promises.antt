@@ -1,8 +1,8 @@
 -- The front door: what the customer asked for, each demand as theorems about the very definitions that the contracts cite: `call`,
--- `startedOver`, `startedFrom` and `runs` (feed, specs/Call and Masks). That whatever the contracts of `Monitor::call`, `start`, `start_from`,
--- `run` and the hall's step allow is what these definitions say, and that no public function asks anything of its caller, is proved in
--- `Contracts`; what people rely on beyond the demands in `Keeper`. The words of each statement are defined in specs/ of `feed` and `cycle`;
--- each proof is a citation. Assumes nothing.
+-- `startedOver`, `startedFrom` and `runs` (feed, specs/Call and Masks). That whatever the contracts of `Monitor::call`, `start`,
+-- `start_from`, `run` and the hall's step allow is what these definitions say, and that no public function asks anything of its caller, is
+-- proved in `Contracts`; what people rely on beyond the demands in `Keeper`. The words of each statement are defined in specs/ of `feed`
+-- and `cycle`; each proof is a citation. Assumes nothing.
 use mathlib.Core.Path.{_≡_, sym, _∙_}
 use mathlib.Core.Bool.{true, false, _&&_, _||_}
 use mathlib.Core.List.{List, [], _∷_, _++_}
@@ -129,7 +129,8 @@ pub pieces-finish : (masks : List Masks) (pieces : List (List ℕ)) (cs : List M
     → Finished masks (joined pieces) cs
 pieces-finish = inPieces.pieces-finish
 
--- the step that `watch` repeats over what it has read, `Monitor::run`, is such calls (that it repeats it, and writes what it reports: `watch`)
+-- the step that `watch` repeats over what it has read, `Monitor::run`, is such calls (that it repeats it, and writes what it reports:
+-- `watch`)
 pub run-is-calls : (masks : List Masks) (feed behind : List ℕ) (room : ℕ) (cs : List Made) (piece : List ℕ)
     → Hands masks feed cs (piece ++ behind) → Continues masks feed cs piece behind room (runs room (monitorAfter masks cs) piece)
 run-is-calls = batch-continues
@@ -197,8 +198,8 @@ module _ (m : Monitor) (piece out : List ℕ) (proper : ProperHall (m .hall)) (t
       && asksAt (m .hall .n) (jetHeard s i j newest) (jetOf i j (stringOf (m .hall) s))))
   close-steps = handed.close-steps m piece out proper taken s i string manifold
 
--- Step 4 of any string, also with overlapping masks and saved sets beyond them: the manifolds' turns, lowest first; and so a minor record that
--- any hall takes, string by string.
+-- Step 4 of any string, also with overlapping masks and saved sets beyond them: the manifolds' turns, lowest first; and so a minor record
+-- that any hall takes, string by string.
 pub four-turns : (masks : List ℕ) (now : ℕ) (s : StringState) → length (s .standing .saved) ≡ 4
     → FourTurns masks now s (manifolds manifoldCount masks now s)
 four-turns = turns.four-turns
@@ -209,8 +210,8 @@ pub turns-taken : (h : Hall) → Shaped h → (r : Minor) (s : ℕ) → s < 4 �
     (stringOf ((stepped (minor r) h) .hall) s)
 turns-taken = turning.turns-taken
 
--- "Bits and temperatures of jets in no mask are ignored everywhere": two records that agree on all but those step every hall alike; and from
--- fresh their bits are 0 in every state.
+-- "Bits and temperatures of jets in no mask are ignored everywhere": two records that agree on all but those step every hall alike; and
+-- from fresh their bits are 0 in every state.
 pub alike-step : (h : Hall) (a b : Record) → Alike (h .masks) a b → stepped a h ≡ stepped b h
 alike-step = alike.alike-step
 

@@ -1,5 +1,5 @@
--- Nights that pin what 01, "One cycle of a string", says of a jet's own values: steps 3 and 6. A line: cycle, path byte, what string 0 says,
--- and its fail word and close byte in the report. Assumes nothing.
+-- Nights that pin what 01, "One cycle of a string", says of a jet's own values: steps 3 and 6. A line: cycle, path byte, what string 0
+-- says, and its fail word and close byte in the report. Assumes nothing.
 use mathlib.Core.List.{List, [], _∷_}
 use Rattle.promises.specs.NightRecords.{nightMap}
 use Rattle.promises.specs.NightHolds.{Night, feeding}

@@ -84,8 +84,8 @@ requestsLostUnderFault =
     ∷ atBoth 100 0x00 quiet quiet (shows 0x00000002 0x00) (shows 0x00000000 0x00)
     ∷ [])
 
--- 1. "nothing else of the string changes", 8: the good copy is not taken under a fault: jet 0 failed off at 3, and the major of 25 comes with
--- the path bit set. At 26 the fail word of before comes back, without jet 0
+-- 1. "nothing else of the string changes", 8: the good copy is not taken under a fault: jet 0 failed off at 3, and the major of 25 comes
+-- with the path bit set. At 26 the fail word of before comes back, without jet 0
 abbrev pub noCopyUnderFault : Night
 noCopyUnderFault =
     feeding nightMap

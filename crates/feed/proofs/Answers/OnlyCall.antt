@@ -13,7 +13,8 @@ use Rattle.feed.specs.Size.{outboxNeeded, reportLength}
 use Rattle.feed.specs.Good.{WholeRecord}
 use Rattle.feed.specs.Report.{reportOf}
 use Rattle.feed.specs.Settled.{recordIn}
-use Rattle.feed.specs.Answered.{Condition, Leaves, AsBefore, Unfit, noMark, noKind, badMinor, badMajor, Waiting, empty, begun, minor, major, Read}
+use Rattle.feed.specs.Answered.{Condition, Leaves, AsBefore, Unfit, noMark, noKind, badMinor, badMajor, Read}
+use Rattle.feed.specs.Answered.{Waiting, empty, begun, minor, major}
 use Rattle.feed.specs.Call.{holds, holding, Result, call}
 use Rattle.feed.specs.declared.call.Monitor.{Monitor}
 use Rattle.feed.proofs.Records.Lengths.{below-or}
@@ -139,7 +140,8 @@ module _ (m : Monitor) (piece out : List ℕ) where
       → x .outcome .answer ≡ y .outcome .answer → AsBefore a m out x → AsBefore a m out y → x ≡ y
   refused-same a x y some p q answer l k = settled-same x y some p q answer (l .0 ∙ sym (k .0)) (l .1 ∙ sym (k .1))
 
-  result-by : (a : Answer) (x y : Result) → When a → (outboxNeeded ≤ length out → Read m piece x) → (outboxNeeded ≤ length out → Read m piece y)
+  result-by : (a : Answer) (x y : Result) → When a → (outboxNeeded ≤ length out → Read m piece x)
+      → (outboxNeeded ≤ length out → Read m piece y)
       → x .outcome .answer ≡ y .outcome .answer → Leaves a m piece out x → Leaves a m piece out y → x ≡ y
   result-by Taken x y c p q e l k =
       let hall : x .outcome .monitor .hall ≡ y .outcome .monitor .hall = l .0 ∙ sym (k .0) in

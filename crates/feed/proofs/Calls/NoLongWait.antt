@@ -75,7 +75,8 @@ same-record r x after rest w v e =
     ∙ take-at x rest (length x) refl
 
 -- a settled record is reported
-pub settled-written : (a : Answer) (h : Hall) (room : ℕ) (r : List ℕ) → outboxNeeded ≤ room → 0 < length r → Condition a h room r → writesReport a ≡ true
+pub settled-written : (a : Answer) (h : Hall) (room : ℕ) (r : List ℕ) → outboxNeeded ≤ room → 0 < length r → Condition a h room r
+    → writesReport a ≡ true
 settled-written Taken h room r l some c = refl
 settled-written Stale h room r l some c = refl
 settled-written Repeat h room r l some c = refl

@@ -68,7 +68,8 @@ module _ (m : Monitor) (piece out : List ℕ) where
   after = (call m piece out) .outcome .monitor
 
   -- a record was answered, so there was room
-  room-for : (a : Answer) → writesReport a ≡ true → Condition a (m .hall) (length out) (recordIn (holds m ++ piece)) → outboxNeeded ≤ length out
+  room-for : (a : Answer) → writesReport a ≡ true → Condition a (m .hall) (length out) (recordIn (holds m ++ piece))
+      → outboxNeeded ≤ length out
   room-for Taken w c = c .0
   room-for Stale w c = c .0
   room-for Repeat w c = c .0
