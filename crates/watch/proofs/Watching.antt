@@ -26,21 +26,23 @@ use Rattle.watch.proofs.Growing.{hands-more}
 
 -- 64 bytes of a map that is not refused start a fresh monitor
 pub fresh-from : (map : List ℕ) (s : Outcome) → length map ≡ mapLength → s ≡ startedFrom map → (s .answer ≡ MapRefused → ⊥)
-    → Fresh (s .monitor)
+    → Fresh (s .monitor) map
 unfolding startedOver started
 fresh-from map s long e kept = by (refused stringCount (masksOfBytes map)) refl
   where
     over : s ≡ startedOver (masksOfBytes map)
     over = e ∙ starts-from map long
 
-    by : (b : Bool) → refused stringCount (masksOfBytes map) ≡ b → Fresh (s .monitor)
+    by : (b : Bool) → refused stringCount (masksOfBytes map) ≡ b → Fresh (s .monitor) map
     by true r = absurd (kept (ap (λ (x : Outcome). x .answer) over ∙ rw r refl))
-    by false r = record { map = map; whole = long; accepted = r; monitor = ap (λ (x : Outcome). x .monitor) over }
+    by false r = record { whole = long; accepted = r; monitor = ap (λ (x : Outcome). x .monitor) over }
 
 -- at the start nothing has been handed in
-pub begins : (start : Monitor) → Fresh start → (fed : ℕ) (left : List ℕ) → fed ≡ length left % 2 ^ 64 → Watched start start 0 fed 0 left
+pub begins : (start : Monitor) (map : List ℕ) → Fresh start map → (fed : ℕ) (left : List ℕ) → fed ≡ length left % 2 ^ 64
+    → Watched start start 0 fed 0 left
 unfolding monitorAfter allReports
-begins start f fed left e = record {
+begins start map f fed left e = record {
+  map = map;
   fresh = f;
   feed = left;
   made = [];
@@ -55,13 +57,14 @@ begins start f fed left e = record {
 pub reads-on : (start m : Monitor) (turns fed fed′ told : ℕ) (left more : List ℕ) → fed′ ≡ (fed + length more) % 2 ^ 64
     → Watched start m turns fed told left → Watched start m turns fed′ told (left ++ more)
 reads-on start m turns fed fed′ told left more e w = record {
+  map = w .map;
   fresh = w .fresh;
   feed = w .feed ++ more;
   made = w .made;
   turned = w .turned;
   read = omega (arith, e, w .read, length-append (w .feed) more);
   written = w .written;
-  hands = hands-more (masksOfBytes (w .fresh .map)) (w .feed) more (w .made) left (w .hands);
+  hands = hands-more (masksOfBytes (w .map)) (w .feed) more (w .made) left (w .hands);
   monitor = w .monitor;
 }
 
@@ -82,7 +85,7 @@ made-one masks cs (c ∷ more) room x enough same full idle = omega arith
 module _ (start m : Monitor) (turns fed told : ℕ) (piece : List ℕ) (room : ℕ) (w : Watched start m turns fed told piece)
     (enough : outboxNeeded ≤ room) where
   abbrev masks : List Masks
-  masks = masksOfBytes (w .fresh .map)
+  masks = masksOfBytes (w .map)
 
   abbrev x : Reported
   x = runs room m piece
@@ -100,6 +103,7 @@ module _ (start m : Monitor) (turns fed told : ℕ) (piece : List ℕ) (room : �
       let k = continues in
       let long = ap length (k .reports) ∙ length-append (allReports masks (w .made)) (x .reports) in
       record {
+        map = w .map;
         fresh = w .fresh;
         feed = w .feed;
         made = k .more ++ w .made;

@@ -16,10 +16,9 @@ use Rattle.watch.specs.Lines.{largestCount}
 use Rattle.watch.specs.declared.Ended.{Ended}
 use Rattle.watch.specs.declared.Why.the-variants.{OutOfTurns, OutOfTries}
 
--- "the sixteen masks first (64 bytes ..)", "if the masks are short or refused it writes nothing": the monitor is fresh over a whole map
--- that is accepted
-pub record Fresh (start : Monitor) : Type 0 where
-  pub map : List ℕ
+-- "the sixteen masks first (64 bytes ..)", "if the masks are short or refused it writes nothing": the monitor is fresh over these bytes, a
+-- whole map that is accepted
+pub record Fresh (start : Monitor) (map : List ℕ) : Type 0 where
   pub whole : length map ≡ mapLength
   pub accepted : refused stringCount (masksOfBytes map) ≡ false
   pub monitor : start ≡ (startedOver (masksOfBytes map)) .monitor
@@ -27,14 +26,15 @@ pub record Fresh (start : Monitor) : Type 0 where
 -- There are a feed and calls that hand in what has been read, all but `left`, and m is the monitor after them. Each turn has made a call;
 -- the feed has as many bytes as the reads gave, and the calls' reports as many as the writes took, counted round in a word.
 pub record Watched (start m : Monitor) (turns fed told : ℕ) (left : List ℕ) : Type 0 where
-  pub fresh : Fresh start
+  pub map : List ℕ
+  pub fresh : Fresh start map
   pub feed : List ℕ
   pub made : List Made
   pub turned : turns ≤ length made
   pub read : fed ≡ length feed % 2 ^ 64
-  pub written : told ≡ length (allReports (masksOfBytes (fresh .map)) made) % 2 ^ 64
-  pub hands : Hands (masksOfBytes (fresh .map)) feed made left
-  pub monitor : m ≡ monitorAfter (masksOfBytes (fresh .map)) made
+  pub written : told ≡ length (allReports (masksOfBytes map) made) % 2 ^ 64
+  pub hands : Hands (masksOfBytes map) feed made left
+  pub monitor : m ≡ monitorAfter (masksOfBytes map) made
 
 -- "and writes the reports": these bytes are what a run reported for the monitor and the piece that it had, and all of it
 pub record ReportedFor (start m : Monitor) (turns fed told : ℕ) (piece bytes : List ℕ) : Type 0 where

@@ -4,7 +4,7 @@
 ghost use mathlib.Core.Logic.{_⊎_};
 ghost use mathlib.Core.Path.{_≡_};
 ghost use Prim.Native.Nat.{_≤_, _<_};
-ghost use lib.ListN.{length};
+ghost use lib.ListN.{length, take};
 ghost use Rattle.feed.specs.Size.{mapLength, outboxNeeded};
 ghost use Rattle.watch.specs.Lines.{largestCount, passes, Read, Written};
 ghost use Rattle.watch.specs.Watched.{Fresh, ReportedFor, EndedBy};
@@ -201,11 +201,11 @@ fn ended_at(over: Why, turns: u64, moved: Moved) -> Ended
     }
 }
 
-// Watches: runs the monitor over what has been read, writes its reports, and reads on, from a fresh monitor and a buffer that holds the map
-// and perhaps feed bytes behind it. `fed` and `told` count feed bytes read and report bytes written, round in a word: so no turn can leave
-// any out.
+// Watches: runs the monitor over what has been read, writes its reports, and reads on, from a buffer that holds the map and perhaps feed
+// bytes behind it, and the monitor that is fresh over that map. `fed` and `told` count feed bytes read and report bytes written, round in a
+// word: so no turn can leave any out.
 fn watched(start: Monitor, input: &mut [u8], read: usize, out: &mut [u8]) -> Ended
-    requires { ⌜ Fresh start ⌝ }
+    requires { ⌜ Fresh start (take mapLength (now input)) ⌝ }
     requires { ⌜ (mapLength ≤ read) × (read ≤ length (now input)) ⌝ }
     requires { ⌜ outboxNeeded ≤ length (now out) ⌝ }
     ensures { λ r. ⌜ EndedBy r ⌝ }

@@ -38,7 +38,7 @@ loop-holds c =
     let there = a .pre .1 .0 in
     let long : length left ≡ a .args .read - mapLength = simp (length-take, length-drop) (omega (arith, there)) in
     let fed : a .args .read - mapLength ≡ length left % 2 ^ 64 = omega (arith, long, a .fits .read .fits) in
-    (refl, refl, there .0, there .1, omega arith, begins (a .args .start) (a .pre .0) _ left fed)
+    (refl, refl, there .0, there .1, omega arith, begins (a .args .start) _ (a .pre .0) _ left fed)
 
 -- there is room for a call
 room : (c : tie.After-run Inv-loop μ-loop) → outboxNeeded ≤ length (c .before .before .before .before .before .loop .out)
