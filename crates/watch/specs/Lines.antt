@@ -1,10 +1,11 @@
 -- What the program does at a line: which failures it tries again, and when it gives a line up. Assumes nothing.
 use mathlib.Core.Path.{_≡_}
 use mathlib.Core.Bool.{Bool, false, _||_}
+use mathlib.Core.Logic.{_⊎_}
 use Prim.Native.Nat.{ℕ, _≤_, _<_}
 use lib.Dec.{eqb}
 use lib.IntN.{ℤ, pos, negsuc}
-use Rattle.watch.specs.declared.Line.the-variants.{Open, OutOfTries}
+use Rattle.watch.specs.declared.Line.the-variants.{Open, Over, OutOfTries}
 use Rattle.watch.specs.declared.Moved.{Moved}
 
 -- the largest count: of turns, and of tries at a line
@@ -16,11 +17,19 @@ abbrev pub passes : ℤ → Bool
 passes (pos n) = eqb n 11 || eqb n 4
 passes (negsuc n) = false
 
--- what a read or a write says of a line that had so many bytes to fill or to give: it is given up for want of tries only after the largest
--- count of them
+-- the system said that a line is over: its last answer was 0, the end of the input, or the call failed, and with a failure that does not pass
+abbrev pub saidOver : (answer failure : ℤ) → Type 0
+saidOver answer failure = (answer ≡ pos 0) ⊎ ((answer ≡ negsuc 0) × (passes failure ≡ false))
+
+-- when a line is given up: it is over only where the system said so, and there is want of tries only after the largest count of them
+pub record GivenUp (r : Moved) : Type 0 where
+  pub over : r .line ≡ Over → saidOver (r .answer) (r .failure)
+  pub tried : r .line ≡ OutOfTries → r .tries ≡ largestCount
+
+-- what a read or a write says of a line that had so many bytes to fill or to give
 pub record Told (most : ℕ) (r : Moved) : Type 0 where
   pub within : r .bytes ≤ most
-  pub tried : r .line ≡ OutOfTries → r .tries ≡ largestCount
+  pub givenUp : GivenUp r
 
 -- a read that says that the line is open brought something
 pub record Read (most : ℕ) (r : Moved) : Type 0 where

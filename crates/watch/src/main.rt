@@ -6,7 +6,7 @@ ghost use mathlib.Core.Path.{_≡_};
 ghost use Prim.Native.Nat.{_≤_, _<_};
 ghost use lib.ListN.{length, take};
 ghost use Rattle.feed.specs.Size.{mapLength, outboxNeeded};
-ghost use Rattle.watch.specs.Lines.{largestCount, passes, Read, Written};
+ghost use Rattle.watch.specs.Lines.{passes, GivenUp, Read, Written};
 ghost use Rattle.watch.specs.Watched.{Fresh, ReportedFor, EndedBy};
 use cycle::answer::Answer;
 use feed::call::Monitor;
@@ -21,11 +21,14 @@ enum Line {
     OutOfTries,
 }
 
-// How many bytes went over a line, what became of it, and the tries before the last.
+// How many bytes went over a line, what became of it, the tries before the last, what the system answered to the last call (to a write of
+// nothing there is none: 0), and the last failure (none: 0).
 struct Moved {
     bytes: usize,
     line: Line,
     tries: u64,
+    answer: isize,
+    failure: i32,
 }
 
 // Why the program has ended.
@@ -36,11 +39,13 @@ enum Why {
     OutOfTries,
 }
 
-// Why, after how many turns, and after how many tries at the line that ended it.
+// Why, after how many turns, and for the line that ended it how many tries, the system's last answer and its last failure.
 struct Ended {
     why: Why,
     turns: u64,
     tries: u64,
+    answer: isize,
+    failure: i32,
 }
 
 // Waits two milliseconds, or less where a signal ends the wait: short beside a cycle's 40.
@@ -74,6 +79,7 @@ fn read_ready(buf: &mut [u8]) -> Moved
     ensures { λ r. ⌜ Read (length (now (buf .exit))) r ⌝ }
 {
     let mut tries: u64 = 0;
+    let mut failure: i32 = 0;
     while tries < u64::MAX {
         let got = libc::read(libc::STDIN_FILENO, buf);
         let bytes = io::count(got, buf);
@@ -82,6 +88,8 @@ fn read_ready(buf: &mut [u8]) -> Moved
                 bytes: bytes,
                 line: Line::Open,
                 tries: tries,
+                answer: got,
+                failure: failure,
             };
         }
         if got == 0 {
@@ -89,13 +97,18 @@ fn read_ready(buf: &mut [u8]) -> Moved
                 bytes: 0,
                 line: Line::Over,
                 tries: tries,
+                answer: got,
+                failure: failure,
             };
         }
-        if !try_again(os::errno()) {
+        failure = os::errno();
+        if !try_again(failure) {
             return Moved {
                 bytes: 0,
                 line: Line::Over,
                 tries: tries,
+                answer: got,
+                failure: failure,
             };
         }
         tries += 1;
@@ -104,6 +117,8 @@ fn read_ready(buf: &mut [u8]) -> Moved
         bytes: 0,
         line: Line::OutOfTries,
         tries: tries,
+        answer: -1,
+        failure: failure,
     }
 }
 
@@ -123,32 +138,41 @@ fn write_reports(
 {
     let mut done: usize = 0;
     let mut tries: u64 = 0;
+    let mut answer: isize = 0;
+    let mut failure: i32 = 0;
     while tries < u64::MAX {
         if done == reports.len() {
             return Moved {
                 bytes: done,
                 line: Line::Open,
                 tries: tries,
+                answer: answer,
+                failure: failure,
             };
         }
         let rest = &reports[done..];
-        let put = libc::write(libc::STDOUT_FILENO, rest);
-        let taken = io::count(put, rest);
+        answer = libc::write(libc::STDOUT_FILENO, rest);
+        let taken = io::count(answer, rest);
         if 0 < taken {
             done += taken;
         } else {
-            if put == 0 {
+            if answer == 0 {
                 return Moved {
                     bytes: done,
                     line: Line::Over,
                     tries: tries,
+                    answer: answer,
+                    failure: failure,
                 };
             }
-            if !try_again(os::errno()) {
+            failure = os::errno();
+            if !try_again(failure) {
                 return Moved {
                     bytes: done,
                     line: Line::Over,
                     tries: tries,
+                    answer: answer,
+                    failure: failure,
                 };
             }
         }
@@ -158,6 +182,8 @@ fn write_reports(
         bytes: done,
         line: Line::OutOfTries,
         tries: tries,
+        answer: answer,
+        failure: failure,
     }
 }
 
@@ -183,7 +209,8 @@ fn read_map(buf: &mut [u8]) -> usize
 // The program ends at a line that is not open.
 fn ended_at(over: Why, turns: u64, moved: Moved) -> Ended
     requires { ⌜ (over ≡ Why.InputOver) ⊎ (over ≡ Why.OutputOver) ⌝ }
-    requires { ⌜ (moved .line ≡ Line.OutOfTries → moved .tries ≡ largestCount) ⌝ }
+    requires { ⌜ GivenUp moved ⌝ }
+    requires { ⌜ (moved .line ≡ Line.Open → ⊥) ⌝ }
     ensures { λ r. ⌜ EndedBy r ⌝ }
 {
     let line = moved.line;
@@ -192,12 +219,16 @@ fn ended_at(over: Why, turns: u64, moved: Moved) -> Ended
             why: Why::OutOfTries,
             turns: turns,
             tries: moved.tries,
+            answer: moved.answer,
+            failure: moved.failure,
         };
     }
     Ended {
         why: over,
         turns: turns,
         tries: moved.tries,
+        answer: moved.answer,
+        failure: moved.failure,
     }
 }
 
@@ -244,6 +275,8 @@ fn watched(start: Monitor, input: &mut [u8], read: usize, out: &mut [u8]) -> End
         why: Why::OutOfTurns,
         turns: turns,
         tries: 0,
+        answer: 1,
+        failure: 0,
     }
 }
 

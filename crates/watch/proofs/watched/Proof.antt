@@ -1,7 +1,6 @@
 -- `watch::watched` meets its contract: there are a feed and calls that hand in what has been read, and the monitor is the one after them.
 -- Assumes nothing.
 use mathlib.Core.Path.{_≡_, refl, sym, ap, _∙_}
-use mathlib.Core.Bool.{Bool, true, false, not}
 use mathlib.Core.Logic.{⊎-elim, inl, inr}
 use borrow.Author.Needs.{needs}
 use Prim.Native.Nat.{ℕ, _+_, _-_, _≤_, _%_, _^_}
@@ -13,6 +12,7 @@ use Rattle.feed.proofs.Calls.RunLaws.{runs-within}
 use Rattle.feed.proofs.Calls.Running.{written-within}
 use Rattle.watch.specs.Lines.{largestCount}
 use Rattle.watch.specs.Watched.{Watched}
+use Rattle.watch.proofs.Failures.{not-true}
 use Rattle.watch.proofs.Ending.{ended-turned}
 use Rattle.watch.proofs.Watching.{begins, reported, goes-on, goes-on-read, at-places}
 use Rattle.watch.proofs.watched.Statement.{statement}
@@ -25,11 +25,6 @@ Inv-loop start input₀ read out₀ m₀ at₀ n₀ turns₀ fed₀ told₀ inpu
 
 abbrev μ-loop : tie.MeasureT-loop
 μ-loop start input₀ read out₀ m₀ at₀ n₀ turns₀ fed₀ told₀ input out m at n turns fed told = largestCount - turns
-
--- where the test `!r.more` held
-not-true : (b : Bool) → not b ≡ true → b ≡ false
-not-true true e = sym e
-not-true false e = refl
 
 loop-holds : tie.Need-loop-holds Inv-loop μ-loop
 loop-holds c =
@@ -80,7 +75,8 @@ write-reports-requires c κs =
     (at-run .run .result) (at-run .run .last .1 .1 .0) (l .inv .5) (room at-run) (at-run .run .ensures)
 
 ended-at-requires : tie.Need-ended-at-requires Inv-loop μ-loop
-ended-at-requires c κs = (inr refl, c .before .write-reports .ensures .told .tried)
+ended-at-requires c κs =
+    (inr refl, (c .before .write-reports .ensures .told .givenUp, λ e. ⊎-elim (λ w. omega arith) (λ w. omega arith) (rw e at (c .match .keys2))))
 
 returns : tie.Need-returns Inv-loop μ-loop
 returns c = c .ended-at .ensures
@@ -98,7 +94,9 @@ read-ready-requires c κs =
     omega (arith, at-loop .loop .inv .0, at-loop .before .before .before .pre .1 .0)
 
 ended-at-requires-2 : tie.Need-ended-at-requires-2 Inv-loop μ-loop
-ended-at-requires-2 c κs = (inl refl, c .before .before .before .read-ready .ensures .told .tried)
+ended-at-requires-2 c κs =
+    let r = c .before .before .before .read-ready in
+    (inl refl, (r .ensures .told .givenUp, λ e. ⊎-elim (λ w. omega arith) (λ w. omega arith) (rw e at (c .match2 .keys2))))
 
 -- the run whose bytes were used up before a read
 abbrev before-read : tie.After-read-ready Inv-loop μ-loop → tie.After-run Inv-loop μ-loop
@@ -116,6 +114,16 @@ same-length-4 c =
 
 returns-2 : tie.Need-returns-2 Inv-loop μ-loop
 returns-2 c = c .ended-at2 .ensures
+
+add-turns : tie.Need-add-turns Inv-loop μ-loop
+add-turns c =
+    let at-run = c .before .before .before .before .before .before .before .before .before .before .before .before .before in
+    omega (arith, at-run .before .before .before .before .loop-test .taken)
+
+loop-less : tie.Need-loop-less Inv-loop μ-loop
+loop-less c =
+    let at-run = c .before .before .before .before .before .before .before .before .before .before .before .before .before in
+    omega (arith, at-run .before .before .before .before .loop-test .taken)
 
 loop-again : tie.Need-loop-again Inv-loop μ-loop
 loop-again c =
@@ -159,7 +167,7 @@ loop-again c =
     (c .if1 .came)
 
 returns-3 : tie.Need-returns-3 Inv-loop μ-loop
-returns-3 c = ended-turned _ _ (omega arith)
+returns-3 c = ended-turned _ _ _ _ (omega arith)
 
 pub watched-spec : {M : Type 1} → statement M
 watched-spec =
@@ -168,4 +176,4 @@ watched-spec =
     (λ c κs. search needs) (λ c. search needs) (λ c. search needs) (λ c. search needs) slice-reshare-prefix-write-reports
     slice-aggregate-write-reports write-reports-requires (λ c. search needs) ended-at-requires (λ c. search needs) (λ c. search needs)
     returns (λ c κs. search needs) add-at read-ready-requires (λ c. search needs) ended-at-requires-2 same-length-3 same-length-4
-    returns-2 (λ c κs. search needs) (λ c. search needs) (λ c. search needs) loop-again (λ c. search needs) (λ c. search needs) returns-3)
+    returns-2 (λ c κs. search needs) add-turns loop-less loop-again (λ c. search needs) (λ c. search needs) returns-3)
