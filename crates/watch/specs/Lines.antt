@@ -17,7 +17,8 @@ abbrev pub passes : ℤ → Bool
 passes (pos n) = eqb n 11 || eqb n 4
 passes (negsuc n) = false
 
--- the system said that a line is over: its last answer was 0, the end of the input, or the call failed, and with a failure that does not pass
+-- the system said that a line is over: it answered 0 to the last call, as at the end of the input, or -1, and the failure is one that does
+-- not pass
 abbrev pub saidOver : (answer failure : ℤ) → Type 0
 saidOver answer failure = (answer ≡ pos 0) ⊎ ((answer ≡ negsuc 0) × (passes failure ≡ false))
 

@@ -21,8 +21,8 @@ enum Line {
     OutOfTries,
 }
 
-// How many bytes went over a line, what became of it, the tries before the last, what the system answered to the last call (to a write of
-// nothing there is none: 0), and the last failure (none: 0).
+// How many bytes went over a line, what became of it, the tries before the last, what the system answered to the last call, and the last
+// failure. Before any they are 1 and EAGAIN, at which no line is over.
 struct Moved {
     bytes: usize,
     line: Line,
@@ -79,7 +79,7 @@ fn read_ready(buf: &mut [u8]) -> Moved
     ensures { λ r. ⌜ Read (length (now (buf .exit))) r ⌝ }
 {
     let mut tries: u64 = 0;
-    let mut failure: i32 = 0;
+    let mut failure: i32 = libc::EAGAIN;
     while tries < u64::MAX {
         let got = libc::read(libc::STDIN_FILENO, buf);
         let bytes = io::count(got, buf);
@@ -138,8 +138,8 @@ fn write_reports(
 {
     let mut done: usize = 0;
     let mut tries: u64 = 0;
-    let mut answer: isize = 0;
-    let mut failure: i32 = 0;
+    let mut answer: isize = 1;
+    let mut failure: i32 = libc::EAGAIN;
     while tries < u64::MAX {
         if done == reports.len() {
             return Moved {
@@ -276,7 +276,7 @@ fn watched(start: Monitor, input: &mut [u8], read: usize, out: &mut [u8]) -> End
         turns: turns,
         tries: 0,
         answer: 1,
-        failure: 0,
+        failure: libc::EAGAIN,
     }
 }
 

@@ -76,7 +76,8 @@ write-reports-requires c κs =
 
 ended-at-requires : tie.Need-ended-at-requires Inv-loop μ-loop
 ended-at-requires c κs =
-    (inr refl, (c .before .write-reports .ensures .told .givenUp, λ e. ⊎-elim (λ w. omega arith) (λ w. omega arith) (rw e at (c .match .keys2))))
+    let r = c .before .write-reports in
+    (inr refl, (r .ensures .told .givenUp, λ e. ⊎-elim (λ w. omega arith) (λ w. omega arith) (rw e at (c .match .keys2))))
 
 returns : tie.Need-returns Inv-loop μ-loop
 returns c = c .ended-at .ensures

@@ -14,7 +14,8 @@ use Rattle.watch.proofs.write_reports.Statement.{statement}
 use Rattle.watch.proofs.write_reports.Tie as tie
 
 abbrev Inv-loop : tie.InvT-loop
-Inv-loop turns fed told piece reports done₀ tries₀ answer₀ failure₀ done tries answer failure = (done ≤ length reports) × (tries ≤ largestCount)
+Inv-loop turns fed told piece reports done₀ tries₀ answer₀ failure₀ done tries answer failure =
+    (done ≤ length reports) × (tries ≤ largestCount)
 
 abbrev μ-loop : tie.MeasureT-loop
 μ-loop turns fed told piece reports done₀ tries₀ answer₀ failure₀ done tries answer failure = largestCount - tries
