@@ -8,7 +8,7 @@ import re
 
 root = pathlib.Path(__file__).resolve().parent.parent
 FRONT = ("crates/promises/proofs/Promises.antt", "crates/promises/proofs/Keeper.antt")
-CRATES = ("feed", "cycle", "bits")
+CRATES = ("writer", "feed", "cycle", "bits")
 
 
 @functools.cache

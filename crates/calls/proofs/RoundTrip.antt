@@ -1,12 +1,11 @@
 -- A hall that is written in bytes and read from them is the same hall. Assumes nothing.
 use mathlib.Core.Path.{_≡_, refl, sym, ap, _∙_}
-use mathlib.Core.Bool.{Bool, true, false, not}
+use mathlib.Core.Bool.{Bool, true, false}
 use mathlib.Core.List.{List, [], _∷_, _++_}
-use Prim.Native.Nat.{ℕ, suc, _+_, _*_, _^_, _<_}
-use native.Mathlib.Nat.{zero-add, add-zero, add-assoc, mul-suc, mul-le-mul-left}
+use Prim.Native.Nat.{ℕ, _+_, _*_, _^_, _<_}
+use native.Mathlib.Nat.{zero-add, add-zero}
 use native.Mathlib.Omega.{arith}
-use lib.Dec.{eqb}
-use lib.ListN.{length, getD, length-append, List·getD-append}
+use lib.ListN.{length, getD}
 use Rattle.cycle.specs.Map.{masksOf, pastMasks}
 use Rattle.cycle.specs.Banks.{noBank}
 use Rattle.cycle.specs.Hall.{pastString}
@@ -14,42 +13,20 @@ use Rattle.cycle.specs.declared.banks.Bank.{Bank}
 use Rattle.cycle.specs.declared.hall.Hall.{Hall}
 use Rattle.cycle.specs.declared.map.Masks.{Masks}
 use Rattle.cycle.specs.declared.string.StringState.{StringState}
-use Rattle.feed.specs.Bytes.{two, four, inTwo, inFour, parts}
+use Rattle.feed.specs.Bytes.{two, four, inTwo, inFour}
 use Rattle.feed.proofs.Records.NumbersInBytes.{two-inTwo, four-inFour, two-stands, four-stands}
-use Rattle.feed.proofs.Reports.Parts.{getD-past, parts-length, parts-at}
-use Rattle.calls.specs.Layout.{flagIn, wordIn, perManifold, standingIn, stringIn, masksIn, bankIn, hallIn}
+use Rattle.feed.proofs.Reports.Parts.{getD-past, parts-length}
+use Rattle.feed.proofs.Reports.Stands.{Stands, front, back, part}
+use Rattle.calls.specs.Layout.{flagIn, wordIn, perManifold, stringIn, masksIn, bankIn, hallIn}
 use Rattle.calls.specs.Layout.{inFlag, inWords, stringWordsOf, inString, inBank, inMap, inStrings, inBanks, inHall}
 use Rattle.calls.specs.Layout.{FitString, FitHall}
 use Rattle.calls.proofs.Laid.{standing-read, string-read, masks-read, bank-read, hall-read, words-length, string-length, bank-length}
 
--- l has the bytes of p from place a on
-abbrev Stands : List ℕ → List ℕ → ℕ → Type 0
-Stands l p a = (i : ℕ) → i < length p → getD l (a + i) 0 ≡ getD p i 0
-
 module _ (l : List ℕ) where
-  front : (p q : List ℕ) (a : ℕ) → Stands l (p ++ q) a → Stands l p a
-  front p q a h i b =
-      h i (let z = length-append p q in omega (arith, z)) ∙ List·getD-append p q 0 i b
-
-  back : (p q : List ℕ) (a k : ℕ) → length p ≡ k → Stands l (p ++ q) a → Stands l q (a + k)
-  back p q a k e h i b =
-      ap (λ (n : ℕ). getD l n 0) (add-assoc a k i)
-      ∙ h (k + i) (let z = length-append p q in omega (arith, z))
-      ∙ getD-past p q k i e
-
-  part : (n k : ℕ) (f : ℕ → List ℕ) → ((s : ℕ) → length (f s) ≡ k) → (a : ℕ) → Stands l (parts n f) a → (s : ℕ) → s < n
-      → Stands l (f s) (a + k * s)
-  part n k f long a h s b i j =
-      let i-in : i < k = omega (arith, long s) in
-      let z = mul-le-mul-left {m = suc s} {n = n} k b in
-      ap (λ (m : ℕ). getD l m 0) (add-assoc a (k * s) i)
-      ∙ h (k * s + i) (omega (arith, parts-length k f long n, mul-suc k s, z))
-      ∙ parts-at k f long n s i b i-in
-
   word : (n : ℕ) (w : List ℕ) (a : ℕ) → Stands l (inWords n w) a → (j : ℕ) → j < n → getD w j 0 < 2 ^ 32 → getD w j 0 ≡ wordIn l a j
   word n w a h j b fit =
       sym
-      (four-stands l (inFour (getD w j 0)) (a + 4 * j) (part n 4 (λ k. inFour (getD w k 0)) (λ k. refl) a h j b)
+      (four-stands l (inFour (getD w j 0)) (a + 4 * j) (part l n 4 (λ k. inFour (getD w k 0)) (λ k. refl) a h j b)
       ∙ four-inFour (getD w j 0) fit)
 
 -- ---- lists of the arrays' lengths, element by element

@@ -12,4 +12,5 @@ pub mod RunLaws
 pub mod Running
 pub mod NoLongWait
 pub mod NextRecord
+pub mod WholeCalls
 pub mod HandedIn

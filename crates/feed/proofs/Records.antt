@@ -12,3 +12,4 @@ pub mod Tables
 pub mod Told
 pub mod HeardValues
 pub mod Carried
+pub mod Padded

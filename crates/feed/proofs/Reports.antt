@@ -3,6 +3,8 @@ pub mod Written
 pub mod ReportLengths
 pub mod ReportWritten
 pub mod Parts
+pub mod Laying
+pub mod Stands
 pub mod ReportBytes
 pub mod ReportPlaces
 pub mod BalanceBits

@@ -9,6 +9,7 @@ pub mod Report
 pub mod Settled
 pub mod Call
 pub mod Answered
+pub mod OneRecord
 pub mod Heard
 pub mod Calls
 pub mod SettledAt

@@ -7,13 +7,14 @@ use lib.Dec.{leb}
 use lib.ListN.{length, getD, drop}
 use Rattle.bits.specs.Bit.{withBit}
 use Rattle.cycle.specs.Size.{stringCount, manifoldCount, moduleCount}
-use Rattle.cycle.specs.Answers.{numberOf}
+use Rattle.cycle.specs.Answers.{isTaken, numberOf}
 use Rattle.cycle.specs.Map.{masksOf, mapped}
 use Rattle.cycle.specs.Banks.{noBank}
 use Rattle.cycle.specs.Hall.{stringOf}
 use Rattle.cycle.specs.declared.answer.Answer.{Answer}
 use Rattle.cycle.specs.declared.banks.Bank.{Bank}
 use Rattle.cycle.specs.declared.hall.Hall.{Hall}
+use Rattle.cycle.specs.declared.hall.Stepped.{Stepped}
 use Rattle.feed.specs.Size.{markByte, reportLength, oxidizerFrom}
 use Rattle.feed.specs.Bytes.{inTwo, inFour, parts}
 
@@ -54,6 +55,10 @@ banksBytes banks = balanceOf moduleCount banks % 256 ∷ lesserBytes banks
 
 unfoldable pub reportOf : Answer → Hall → List ℕ
 reportOf a h = headOf (numberOf a) (h .n) ++ (stringsBytes h ++ banksBytes (h .banks))
+
+-- of what a record led to: its report, where it is taken
+abbrev pub reportTaken : Stepped → List (List ℕ)
+reportTaken x = cond (isTaken (x .answer)) (reportOf (x .answer) (x .hall) ∷ []) []
 
 -- the report put into an outbox: "Bytes after the 34th keep their values", and so do all where it does not fit
 abbrev pub fitsIn : List ℕ → Bool

@@ -95,7 +95,7 @@ pub(crate) fn shift(s: &mut [u8], k: usize)
     clear(&mut s[m..]);
 }
 
-fn copy(to: &mut [u8], from: &[u8])
+pub(crate) fn copy(to: &mut [u8], from: &[u8])
     requires { ⌜ length (now to) ≡ length (now from) ⌝ }
     ensures { λ r. ⌜ now (to .exit) ≡ now (from .entry) ⌝ }
 {

@@ -1,12 +1,16 @@
 // The values of a record: its bytes as the cycle rules take them.
 ghost use mathlib.Core.Path.{_≡_};
-ghost use Prim.Native.Nat.{_+_, _≤_};
+ghost use Prim.Native.Nat.{_+_, _≤_, _<_};
 ghost use lib.ListN.{length};
 ghost use Rattle.feed.specs.Size.{sampleLength, temperaturesLength, requestsLength, quantitiesLength, minorLength, majorLength};
 ghost use Rattle.feed.specs.Values.{sampleAt, samplesOf, minorOf, temperaturesAt, temperaturesOf, requestsAt, requestsOf};
 ghost use Rattle.feed.specs.Values.{quantitiesAt, quantitiesOf, majorOf};
+ghost use Rattle.feed.specs.Reader.{store};
 use crate::bytes::four_at;
 use crate::bytes::two_at;
+use crate::reader::copy;
+use crate::size::MAJOR_LENGTH;
+use crate::size::MINOR_LENGTH;
 use crate::size::PATH_AT;
 use crate::size::QUANTITIES_FROM;
 use crate::size::QUANTITIES_LENGTH;
@@ -173,4 +177,35 @@ pub(crate) fn major_of(s: &[u8], minor: Minor) -> Major
         requests: requests,
         quantities: quantities,
     }
+}
+
+// Bytes that are fewer than a record's, and 0 in the places behind them.
+fn padded(s: &[u8]) -> [u8; MAJOR_LENGTH]
+    requires { ⌜ length (now s) < majorLength ⌝ }
+    ensures { λ r. ⌜ r ≡ store (now (s .entry)) ⌝ }
+{
+    let mut whole = [0u8; MAJOR_LENGTH];
+    copy(&mut whole[0..s.len()], s);
+    whole
+}
+
+// The same values of any bytes, also of fewer than a record's: those past the end are 0. Mark, sum and limits are not looked at.
+pub fn read_minor(s: &[u8]) -> Minor
+    ensures { λ r. ⌜ r ≡ minorOf (now (s .entry)) ⌝ }
+{
+    if s.len() < MINOR_LENGTH {
+        let whole = padded(s);
+        return minor_of(&whole);
+    }
+    minor_of(s)
+}
+
+pub fn read_major(s: &[u8]) -> Major
+    ensures { λ r. ⌜ r ≡ majorOf (now (s .entry)) ⌝ }
+{
+    if s.len() < MAJOR_LENGTH {
+        let whole = padded(s);
+        return major_of(&whole, minor_of(&whole));
+    }
+    major_of(s, minor_of(s))
 }

@@ -8,6 +8,7 @@ use Rattle.cycle.specs.Records.{minor, major}
 use Rattle.feed.specs.Step.{stepOf}
 use Rattle.feed.specs.Call.{startedOver, call, runs, Ran-by}
 use Rattle.feed.specs.Masks.{startedFrom}
+use Rattle.writer.specs.Write.{wrote, write}
 use Rattle.promises.specs.Outcomes.{Says, AsksNothing}
 use Rattle.bits.proofs.without as without
 use Rattle.bits.proofs.has as has
@@ -27,6 +28,8 @@ use Rattle.feed.proofs.bytes.«read_two» as read-two
 use Rattle.feed.proofs.bytes.«read_four» as read-four
 use Rattle.feed.proofs.bytes.«put_two» as put-two
 use Rattle.feed.proofs.bytes.«put_four» as put-four
+use Rattle.feed.proofs.values.«read_minor» as read-minor
+use Rattle.feed.proofs.values.«read_major» as read-major
 use Rattle.feed.proofs.format.sum as sum
 use Rattle.feed.proofs.reader.«find_front» as find-front
 use Rattle.feed.proofs.report.«put_report» as put-report
@@ -35,6 +38,9 @@ use Rattle.feed.proofs.call.Monitor.start as monitor-start
 use Rattle.feed.proofs.call.Monitor.«start_from» as monitor-start-from
 use Rattle.feed.proofs.call.Monitor.call as monitor-call
 use Rattle.feed.proofs.call.Monitor.run as monitor-run
+use Rattle.writer.proofs.answer.Writing.number as writing-number
+use Rattle.writer.proofs.write.«write_minor» as write-minor
+use Rattle.writer.proofs.write.«write_major» as write-major
 
 -- ---- whatever the contract allows is the outcome, and the outbox, of the definition
 
@@ -60,6 +66,12 @@ major-is κs a x w p = p
 
 pub step-is : Says step.ended step.Reads.Post (λ κs a x w. x ≡ stepOf (now (a .1 .0)) (a .0))
 step-is κs a x w p = p
+
+pub write-minor-is : Says write-minor.ended write-minor.Reads.Post (λ κs a x w. wrote x (w .1 .0) ≡ write (minor (a .0)) (now (a .1 .0)))
+write-minor-is κs a x w p = p
+
+pub write-major-is : Says write-major.ended write-major.Reads.Post (λ κs a x w. wrote x (w .1 .0) ≡ write (major (a .0)) (now (a .1 .0)))
+write-major-is κs a x w p = p
 
 -- ---- no public function asks anything
 
@@ -117,6 +129,12 @@ put-two-asks κs a = tt
 pub put-four-asks : AsksNothing put-four.ended put-four.Reads.Pre
 put-four-asks κs a = tt
 
+pub read-minor-asks : AsksNothing read-minor.ended read-minor.Reads.Pre
+read-minor-asks κs a = tt
+
+pub read-major-asks : AsksNothing read-major.ended read-major.Reads.Pre
+read-major-asks κs a = tt
+
 pub sum-asks : AsksNothing sum.ended sum.Reads.Pre
 sum-asks κs a = tt
 
@@ -140,3 +158,12 @@ monitor-call-asks κs a = tt
 
 pub monitor-run-asks : AsksNothing monitor-run.ended monitor-run.Reads.Pre
 monitor-run-asks κs a = tt
+
+pub writing-number-asks : AsksNothing writing-number.ended writing-number.Reads.Pre
+writing-number-asks κs a = tt
+
+pub write-minor-asks : AsksNothing write-minor.ended write-minor.Reads.Pre
+write-minor-asks κs a = tt
+
+pub write-major-asks : AsksNothing write-major.ended write-major.Reads.Pre
+write-major-asks κs a = tt

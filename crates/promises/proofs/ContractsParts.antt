@@ -11,8 +11,10 @@ use Rattle.cycle.specs.Numbers as numbers
 use Rattle.cycle.specs.Hall.{freshHall, started, minorTaken, majorTaken}
 use Rattle.feed.specs.Bytes.{two, four, inTwo, inFour, putOver}
 use Rattle.feed.specs.Format.{sumOf}
+use Rattle.feed.specs.Values.{minorOf, majorOf}
 use Rattle.feed.specs.Settled.{frontOf}
 use Rattle.feed.specs.Report.{fitsIn, reportOver}
+use Rattle.writer.specs.Answers as writings
 use Rattle.promises.specs.Outcomes.{Says}
 use Rattle.bits.proofs.without as without
 use Rattle.bits.proofs.has as has
@@ -30,9 +32,12 @@ use Rattle.feed.proofs.bytes.«read_two» as read-two
 use Rattle.feed.proofs.bytes.«read_four» as read-four
 use Rattle.feed.proofs.bytes.«put_two» as put-two
 use Rattle.feed.proofs.bytes.«put_four» as put-four
+use Rattle.feed.proofs.values.«read_minor» as read-minor
+use Rattle.feed.proofs.values.«read_major» as read-major
 use Rattle.feed.proofs.format.sum as sum
 use Rattle.feed.proofs.reader.«find_front» as find-front
 use Rattle.feed.proofs.report.«put_report» as put-report
+use Rattle.writer.proofs.answer.Writing.number as writing-number
 
 pub without-is : Says without.ended without.Reads.Post (λ κs a x w. x ≡ bits.without (a .0) (a .1 .0))
 without-is κs a x w p = p
@@ -82,6 +87,12 @@ put-two-is κs a x w p = p
 pub put-four-is : Says put-four.ended put-four.Reads.Post (λ κs a x w. w .0 ≡ putOver (inFour (a .1 .0)) (now (a .0)))
 put-four-is κs a x w p = p
 
+pub read-minor-is : Says read-minor.ended read-minor.Reads.Post (λ κs a x w. x ≡ minorOf (now (a .0)))
+read-minor-is κs a x w p = p
+
+pub read-major-is : Says read-major.ended read-major.Reads.Post (λ κs a x w. x ≡ majorOf (now (a .0)))
+read-major-is κs a x w p = p
+
 pub sum-is : Says sum.ended sum.Reads.Post (λ κs a x w. x ≡ sumOf (now (a .0)))
 sum-is κs a x w p = p
 
@@ -91,3 +102,6 @@ find-front-is κs a x w p = p
 pub put-report-is : Says put-report.ended put-report.Reads.Post
     (λ κs a x w. (x ≡ fitsIn (now (a .0))) × (w .0 ≡ reportOver (a .1 .0) (a .1 .1 .0) (now (a .0))))
 put-report-is κs a x w p = p
+
+pub writing-number-is : Says writing-number.ended writing-number.Reads.Post (λ κs a x w. x ≡ writings.numberOf (a .0))
+writing-number-is κs a x w p = p

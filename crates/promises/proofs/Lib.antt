@@ -3,6 +3,7 @@ pub mod UniqueBits
 pub mod UniqueCycle
 pub mod UniqueFeedReader
 pub mod UniqueFeedCall
+pub mod UniqueWriter
 pub mod Contracts
 pub mod ContractsParts
 pub mod Nights
@@ -13,6 +14,7 @@ pub mod InstanceGiven
 pub mod InstanceFinished
 pub mod InstanceCut
 pub mod InstanceClose
+pub mod InstanceWrites
 pub mod SmallRules
 pub mod Keeper
 pub mod Promises

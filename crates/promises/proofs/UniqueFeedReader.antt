@@ -1,10 +1,12 @@
--- 01, "What each claim has to tie down": one outcome for bytes, sum, reader and report. Assumes nothing.
+-- 01, "What each claim has to tie down": one outcome for bytes, values, sum, reader and report. Assumes nothing.
 use mathlib.Core.Path.{refl, sym, ap, _∙_}
 use Rattle.promises.specs.Outcomes.{OneOutcome}
 use Rattle.feed.proofs.bytes.«read_two» as read-two
 use Rattle.feed.proofs.bytes.«read_four» as read-four
 use Rattle.feed.proofs.bytes.«put_two» as put-two
 use Rattle.feed.proofs.bytes.«put_four» as put-four
+use Rattle.feed.proofs.values.«read_minor» as read-minor
+use Rattle.feed.proofs.values.«read_major» as read-major
 use Rattle.feed.proofs.format.sum as sum
 use Rattle.feed.proofs.reader.«find_front» as find-front
 use Rattle.feed.proofs.report.«put_report» as put-report
@@ -20,6 +22,12 @@ put-two-one κs a x x′ w w′ p q = (refl, ap (λ l. (l, (tt, tt))) (p ∙ sym
 
 pub put-four-one : OneOutcome put-four.ended put-four.Reads.Post
 put-four-one κs a x x′ w w′ p q = (refl, ap (λ l. (l, (tt, tt))) (p ∙ sym q))
+
+pub read-minor-one : OneOutcome read-minor.ended read-minor.Reads.Post
+read-minor-one κs a x x′ w w′ p q = (p ∙ sym q, refl)
+
+pub read-major-one : OneOutcome read-major.ended read-major.Reads.Post
+read-major-one κs a x x′ w w′ p q = (p ∙ sym q, refl)
 
 pub sum-one : OneOutcome sum.ended sum.Reads.Post
 sum-one κs a x x′ w w′ p q = (p ∙ sym q, refl)

@@ -75,6 +75,13 @@ impl Night {
         feed
     }
 
+    /// The values of the next good record, for a line that does nothing to it.
+    pub fn next_record(&mut self) -> Record {
+        self.world.pass(&self.chances, &mut self.random);
+        self.cycle = self.next_cycle();
+        self.record(self.cycle)
+    }
+
     fn next_cycle(&mut self) -> u64 {
         let to_major = 25 - self.cycle % 25;
         let far = 1 + self.random.below(32_767);

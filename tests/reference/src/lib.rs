@@ -2,7 +2,8 @@
 //! and order. It is slow and obvious on purpose: it is what other builds are compared to.
 //!
 //! Lowest part first: `jet`, `jet_string`, `record`, `hall`, `reader`, `report`, `monitor`,
-//! `feed`, `state`. The other modules make input and run the programs that are compared.
+//! `feed`, `state`; and the way back, `writer`. The other modules make input and run the programs
+//! that are compared.
 
 pub mod feed;
 pub mod hall;
@@ -13,11 +14,16 @@ pub mod reader;
 pub mod record;
 pub mod report;
 pub mod state;
+pub mod writer;
 
+pub mod dispatch;
 pub mod foreign;
 pub mod generate;
 pub mod process;
 pub mod random;
+pub mod request;
+pub mod request_cases;
+pub mod request_input;
 pub mod score;
 pub mod script;
 pub mod tally;

@@ -1,6 +1,8 @@
 //! A program under test: its input is written and its output read side by side, so that
 //! neither end can block the other, and every wait has a limit.
 
+use crate::random::Random;
+use std::fs::File;
 use std::io::{Read, Write};
 use std::process::{Child, ChildStdin, Command, ExitStatus, Stdio};
 use std::sync::mpsc::{channel, Receiver, RecvTimeoutError};
@@ -106,6 +108,30 @@ pub fn run_pieces(program: &str, pieces: Vec<Vec<u8>>, limit: Duration) -> Resul
     drop(running);
     writer.join().map_err(|_| "the writing thread broke off")?;
     output
+}
+
+/// Runs a program over a file.
+pub fn run_file(program: &str, input: &[u8], limit: Duration) -> Result<Vec<u8>, String> {
+    let path = std::env::temp_dir().join(format!("compare-{}.feed", std::process::id()));
+    let output = std::fs::write(&path, input)
+        .and_then(|()| File::open(&path))
+        .map_err(|error| format!("can't keep the feed: {error}"))
+        .and_then(|file| Running::start(program, Stdio::from(file), true)?.finish(limit));
+    let _ = std::fs::remove_file(&path);
+    output
+}
+
+/// Pieces of random length, tiny ones too.
+pub fn cut(mut bytes: &[u8], random: &mut Random) -> Vec<Vec<u8>> {
+    let longest = random.pick(&[200, 1_000, 5_000, 20_000]);
+    let mut pieces = Vec::new();
+    while !bytes.is_empty() {
+        let end = random.pick(&[3, longest, longest, longest]);
+        let (piece, rest) = bytes.split_at((1 + random.index(end)).min(bytes.len()));
+        pieces.push(piece.to_vec());
+        bytes = rest;
+    }
+    pieces
 }
 
 fn until(end: Instant) -> Duration {

@@ -51,7 +51,14 @@ impl Record {
     /// The record's bytes with the right sum, reserved bits and large quantities as they stand.
     pub fn bytes(&self) -> Vec<u8> {
         let mut bytes = vec![MARK, if self.major.is_some() { MAJOR } else { MINOR }];
-        bytes.extend(self.wire.to_be_bytes());
+        bytes.extend(self.values());
+        bytes.extend(sum(&bytes).to_be_bytes());
+        bytes
+    }
+
+    /// The bytes between mark and sum.
+    pub fn values(&self) -> Vec<u8> {
+        let mut bytes = self.wire.to_be_bytes().to_vec();
         bytes.push(self.path);
         for string in &self.strings {
             bytes.extend(string.commanded.to_be_bytes());
@@ -71,20 +78,16 @@ impl Record {
                 bytes.extend(quantity.to_be_bytes());
             }
         }
-        bytes.extend(sum(&bytes).to_be_bytes());
         bytes
     }
 
-    /// Reads a full record, mark and length already known to fit. `None` if its sum is wrong,
-    /// a reserved bit is set or a quantity is above 1,000.
-    pub fn read(bytes: &[u8]) -> Option<Record> {
-        let mut left = &bytes[2..];
+    /// The record that has these bytes between mark and sum, allowed or not.
+    pub fn of_values(is_major: bool, mut left: &[u8]) -> Record {
         let mut number = |length| {
             let (front, rest) = left.split_at(length);
             left = rest;
             front.iter().fold(0, |number, byte| number * 256 + u32::from(*byte))
         };
-        let is_major = bytes[1] == MAJOR;
         let mut record = Record::quiet(if is_major { 0 } else { 1 });
         record.wire = number(2) as u16;
         record.path = number(1) as u8;
@@ -106,15 +109,27 @@ impl Record {
                 *quantity = number(2) as u16;
             }
         }
-        let right_sum = sum(&bytes[..bytes.len() - 2]) == number(2) as u16;
-        (right_sum && record.is_allowed()).then_some(record)
+        record
     }
 
-    fn is_allowed(&self) -> bool {
-        let over = |major: &Major| major.quantities.iter().flatten().any(|quantity| *quantity > 1_000);
-        self.path < 16
-            && self.strings.iter().all(|string| string.valves < 16)
-            && !self.major.as_ref().is_some_and(over)
+    /// Reads a full record, mark and length already known to fit. `None` if its sum is wrong,
+    /// a reserved bit is set or a quantity is above 1,000.
+    pub fn read(bytes: &[u8]) -> Option<Record> {
+        let (summed, end) = bytes.split_at(bytes.len() - 2);
+        let record = Record::of_values(bytes[1] == MAJOR, &summed[2..]);
+        let right_sum = sum(summed).to_be_bytes() == end;
+        (right_sum && !record.has_reserved_bit() && !record.has_large_quantity()).then_some(record)
+    }
+
+    /// One of bits 4 to 7 of the path byte or of a valve byte is set.
+    pub fn has_reserved_bit(&self) -> bool {
+        self.path >= 16 || self.strings.iter().any(|string| string.valves >= 16)
+    }
+
+    /// A quantity is above 1,000, which only a major record can have.
+    pub fn has_large_quantity(&self) -> bool {
+        let quantities = self.major.iter().flat_map(|major| major.quantities).flatten();
+        quantities.into_iter().any(|quantity| quantity > 1_000)
     }
 }
 

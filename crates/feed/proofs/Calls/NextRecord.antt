@@ -12,15 +12,13 @@ use Rattle.cycle.specs.Answers.{writesReport}
 use Rattle.cycle.specs.declared.answer.Answer.the-variants.{NothingSettled}
 use Rattle.feed.specs.Size.{outboxNeeded}
 use Rattle.feed.specs.Good.{WholeRecord}
-use Rattle.feed.specs.Format.{look, lengthShown}
-use Rattle.feed.specs.Reader.{settle}
-use Rattle.feed.specs.Settled.{recordIn, recordLength}
+use Rattle.feed.specs.Settled.{recordIn}
 use Rattle.feed.specs.Answered.{Read, Leaves}
 use Rattle.feed.specs.Call.{holds, Result, call}
 use Rattle.feed.specs.declared.call.Monitor.{Monitor}
 use Rattle.feed.proofs.Records.Lengths.{below-or}
-use Rattle.feed.proofs.Records.Goods.{whole-some, whole-settles}
-use Rattle.feed.proofs.Reading.Settling.{settle-settled}
+use Rattle.feed.proofs.Records.Goods.{whole-some}
+use Rattle.feed.proofs.Reading.FirstRecord.{stands-first}
 use Rattle.feed.proofs.Calls.Turning.{holds-same}
 use Rattle.feed.proofs.Calls.CallReads.{call-reads}
 use Rattle.feed.proofs.Calls.NoLongWait.{same-length, settled-written}
@@ -46,17 +44,13 @@ module _ (m : Monitor) (piece out r : List ℕ) (whole : WholeRecord r) (room : 
       by (inl l) = absurd (reading .noneLost 0 l later r rest e whole)
       by (inr l) = omega arith
 
-empty-list : (l : List ℕ) → length l ≡ 0 → l ≡ []
+pub empty-list : (l : List ℕ) → length l ≡ 0 → l ≡ []
 empty-list [] e = refl
 empty-list (a ∷ l) e = absurd (omega arith)
 
 -- of the bytes of a whole record, it is the first
 record-alone : (r : List ℕ) → WholeRecord r → recordIn r ≡ r
-record-alone r w =
-    let k = whole-settles r w in
-    let here : settle r ≡ r = settle-settled r (k .0) (k .1 .1) in
-    let long : recordLength r ≡ length r = ap (λ (l : List ℕ). lengthShown (look l)) here ∙ ap lengthShown (k .1 .1) ∙ sym (k .1 .0) in
-    ap₂ (λ (n : ℕ) (l : List ℕ). take n l) long here ∙ take-length r
+record-alone r w = ap recordIn (sym (append-nil r)) ∙ stands-first r [] w .first
 
 -- ---- the call that brings its last byte
 

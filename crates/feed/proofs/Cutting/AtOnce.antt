@@ -1,38 +1,34 @@
 -- A feed looked at all at once: its records one after the other, whatever the calls. Assumes nothing.
 use mathlib.Core.Path.{_≡_, refl, sym, ap, ap₂, subst, _∙_}
-use mathlib.Core.Bool.{true, false, cond}
+use mathlib.Core.Bool.{true, false}
 use mathlib.Core.List.{List, [], _∷_, _++_, append-assoc}
 use Prim.Native.Nat.{ℕ, zero, suc, _≤_, _<_}
 use Rattle.bits.proofs.Yes.{not-both}
 use native.Mathlib.Omega.{arith}
 use lib.ListN.{length, take, drop, length-drop}
 use lib.Seq.{take-append-le, drop-append-le}
-use Rattle.cycle.specs.Answers.{isTaken}
 use Rattle.cycle.specs.Hall.{stepped}
 use Rattle.cycle.specs.declared.hall.Hall.{Hall}
 use Rattle.cycle.specs.declared.hall.Stepped.{Stepped}
 use Rattle.feed.specs.Format.{look, settles, lengthShown}
 use Rattle.feed.specs.Reader.{settle}
 use Rattle.feed.specs.Values.{valuesOf}
-use Rattle.feed.specs.Report.{reportOf}
+use Rattle.feed.specs.Report.{reportTaken}
 use Rattle.feed.specs.Settled.{hasRecord, recordLength, recordIn, behindIn, valuesIn}
 use Rattle.feed.proofs.Records.Lengths.{by-test, shown-long}
 use Rattle.feed.proofs.Records.Whole.{shown-sized}
 use Rattle.feed.proofs.Reading.Settling.{settle-append, settle-found}
 use Rattle.feed.proofs.Reading.Fronts.{settle-short}
 
--- the hall's step on the first record of l, and the report if it is taken
+-- the hall's step on the first record of l
 abbrev pub stepOn : Hall → List ℕ → Stepped
 stepOn h l = stepped (valuesIn l) h
-
-abbrev pub toldBy : Stepped → List (List ℕ)
-toldBy x = cond (isTaken (x .answer)) (reportOf (x .answer) (x .hall) ∷ []) []
 
 -- from the hall h over the bytes l: the reports that answer 0, the hall at the end, and the bytes that still wait
 pub data AtOnce : Hall → List ℕ → List (List ℕ) → Hall → List ℕ → Type 0 where
   rests : {h : Hall} {l w : List ℕ} → hasRecord l ≡ false → w ≡ settle l → AtOnce h l [] h w
   steps : {h e : Hall} {l w : List ℕ} {rs all : List (List ℕ)} → hasRecord l ≡ true
-      → AtOnce ((stepOn h l) .hall) (behindIn l) rs e w → all ≡ toldBy (stepOn h l) ++ rs → AtOnce h l all e w
+      → AtOnce ((stepOn h l) .hall) (behindIn l) rs e w → all ≡ reportTaken (stepOn h l) ++ rs → AtOnce h l all e w
 
 -- it hangs on what settling leaves alone
 pub at-once-same : {h e : Hall} {l w : List ℕ} {rs : List (List ℕ)} (k : List ℕ) → settle l ≡ settle k → AtOnce h l rs e w
@@ -52,7 +48,7 @@ at-once-fixed (rests z r) (steps y b q) = not-both _ y z
 at-once-fixed (steps z a r) (rests y q) = not-both _ z y
 at-once-fixed {h = h} {l = l} (steps z a r) (steps y b q) =
     let s = at-once-fixed a b in
-    record { reports = r ∙ ap (λ (t : List (List ℕ)). toldBy (stepOn h l) ++ t) (s .reports) ∙ sym q; hall = s .hall; waiting = s .waiting }
+    record { reports = r ∙ ap (λ (t : List (List ℕ)). reportTaken (stepOn h l) ++ t) (s .reports) ∙ sym q; hall = s .hall; waiting = s .waiting }
 
 -- ---- bytes behind a record
 
@@ -88,8 +84,8 @@ at-once-append {h = h} {f = f} {a = a} {v = v} {os = os} q (steps {rs = rs} z b 
     (subst (λ (t : List ℕ). AtOnce ((stepOn h (a ++ q)) .hall) t (rs ++ os) f v) (sym (x .behind))
     (subst (λ (y : Stepped). AtOnce (y .hall) (behindIn a ++ q) (rs ++ os) f v) (sym s) i))
     (ap (λ (t : List (List ℕ)). t ++ os) r
-    ∙ append-assoc (toldBy (stepOn h a)) rs os
-    ∙ ap (λ (y : Stepped). toldBy y ++ (rs ++ os)) (sym s))
+    ∙ append-assoc (reportTaken (stepOn h a)) rs os
+    ∙ ap (λ (y : Stepped). reportTaken y ++ (rs ++ os)) (sym s))
 
 -- ---- every feed comes to an end
 
@@ -111,7 +107,7 @@ ends-by h l next = by-test (hasRecord l)
     (λ t.
     let x = next (behind-shorter l t) in
     record {
-      reports = toldBy (stepOn h l) ++ x .reports;
+      reports = reportTaken (stepOn h l) ++ x .reports;
       hall = x .hall;
       waiting = x .waiting;
       all = steps t (x .all) refl;

@@ -12,7 +12,7 @@ use Rattle.cycle.specs.declared.hall.Stepped.{Stepped}
 use Rattle.cycle.specs.declared.map.Masks.{Masks}
 use Rattle.feed.specs.Size.{outboxNeeded, reportLength}
 use Rattle.feed.specs.Reader.{settle}
-use Rattle.feed.specs.Report.{reportOf}
+use Rattle.feed.specs.Report.{reportOf, reportTaken}
 use Rattle.feed.specs.Settled.{behindIn}
 use Rattle.feed.specs.Call.{holds, Result, called, call, startedOver}
 use Rattle.feed.specs.Calls.{Made, monitorAfter, takenReports, Hands, starts, calls}
@@ -23,14 +23,14 @@ use Rattle.feed.proofs.Reports.ReportLengths.{report-length}
 use Rattle.feed.proofs.Calls.Turning.{holds-same}
 use Rattle.feed.proofs.Calls.Calling.{call-called}
 use Rattle.feed.proofs.Calls.CallCases.{CallCase, none, some, call-case}
-use Rattle.feed.proofs.Cutting.AtOnce.{AtOnce, steps, stepOn, toldBy, at-once-same, ahead, step-ahead}
+use Rattle.feed.proofs.Cutting.AtOnce.{AtOnce, steps, stepOn, at-once-same, ahead, step-ahead}
 
 -- the report of a call that answers 0
 abbrev told : Result → List (List ℕ)
 told c = cond (isTaken (c .outcome .answer)) (take reportLength (c .outbox) ∷ []) []
 
 told-step : (x : Stepped) (out : List ℕ)
-    → cond (isTaken (x .answer)) (take reportLength (reportOf (x .answer) (x .hall) ++ out) ∷ []) [] ≡ toldBy x
+    → cond (isTaken (x .answer)) (take reportLength (reportOf (x .answer) (x .hall) ++ out) ∷ []) [] ≡ reportTaken x
 told-step x out =
     ap (λ (l : List ℕ). cond (isTaken (x .answer)) (l ∷ []) [])
     (take-at (reportOf (x .answer) (x .hall)) out reportLength (report-length (x .answer) (x .hall)))

@@ -4,8 +4,6 @@ use mathlib.Core.Path.{_≡_, refl, sym, ap, ap₂, subst, _∙_}
 use mathlib.Core.List.{List, [], _++_}
 use mathlib.Core.Logic.{inl, inr}
 use Prim.Native.Nat.{ℕ}
-use lib.ListN.{length, take, drop}
-use lib.Seq.{take-at, drop-at}
 use Rattle.cycle.specs.Numbers.{judged}
 use Rattle.cycle.specs.Records.{Record, majorKind, common}
 use Rattle.cycle.specs.Hall.{started, steppedBy, stepped}
@@ -17,21 +15,17 @@ use Rattle.cycle.specs.declared.map.Masks.{Masks}
 use Rattle.cycle.specs.declared.number.Verdict.{Verdict}
 use Rattle.cycle.specs.declared.number.Verdict.the-variants.{Refuses}
 use Rattle.cycle.proofs.Numbers.{judged-repeat, judged-stale}
-use Rattle.feed.specs.Format.{look, settles, lengthShown}
-use Rattle.feed.specs.Reader.{settle}
 use Rattle.feed.specs.Values.{valuesOf}
 use Rattle.feed.specs.Good.{WholeRecord}
-use Rattle.feed.specs.Settled.{recordLength, recordIn, behindIn}
+use Rattle.feed.specs.Settled.{behindIn}
+use Rattle.feed.specs.Report.{reportTaken}
 use Rattle.feed.specs.Call.{holds, holding}
 use Rattle.feed.specs.Calls.{Made, monitorAfter, takenReports, Finished}
 use Rattle.feed.specs.PutIn.{Old, PutIn, same, puts}
-use Rattle.feed.specs.declared.format.Kind.{Kind}
-use Rattle.feed.specs.declared.format.Look.the-variants.{Settles}
 use Rattle.feed.specs.declared.call.Monitor.{Monitor}
 use Rattle.feed.proofs.Records.Told.{wire-of}
-use Rattle.feed.proofs.Reading.Settling.{settled-append, settle-settled}
-use Rattle.feed.proofs.Records.Goods.{whole-settles}
-use Rattle.feed.proofs.Cutting.AtOnce.{AtOnce, steps, stepOn, toldBy, at-once-fixed, at-once-append, at-once-ends}
+use Rattle.feed.proofs.Reading.FirstRecord.{stands-first}
+use Rattle.feed.proofs.Cutting.AtOnce.{AtOnce, steps, stepOn, at-once-fixed, at-once-append, at-once-ends}
 use Rattle.feed.proofs.Cutting.FeedEnds.{last-idle, finished-at-once}
 
 -- ---- a stale or repeated record changes nothing
@@ -43,7 +37,7 @@ refused-step h r a e = ap (λ (v : Verdict). steppedBy v r h) e
 
 -- no step, and no report that answers 0
 abbrev Idles : Hall → Stepped → Type 0
-Idles h x = (x .hall ≡ h) × (toldBy x ≡ [])
+Idles h x = (x .hall ≡ h) × (reportTaken x ≡ [])
 
 old-idles : (h : Hall) (r : List ℕ) → Old (h .n) r → Idles h (stepped (valuesOf r) h)
 old-idles h r (inl e) =
@@ -58,18 +52,11 @@ old-idles h r (inr e) =
 old-at-once : (h e : Hall) (r q w : List ℕ) (rs : List (List ℕ)) → WholeRecord r → Old (h .n) r → AtOnce h q rs e w
     → AtOnce h (r ++ q) rs e w
 old-at-once h e r q w rs whole old a =
-    let x = whole-settles r whole in
-    let k : Kind = x .0 in
-    let there : look (r ++ q) ≡ Settles k = settled-append r q k (x .1 .1) in
-    let all : settle (r ++ q) ≡ r ++ q = settle-settled (r ++ q) k there in
-    let shown : look (settle (r ++ q)) ≡ Settles k = ap look all ∙ there in
-    let n : length r ≡ recordLength (r ++ q) = x .1 .0 ∙ ap lengthShown (sym shown) in
-    let first : recordIn (r ++ q) ≡ r = ap (take (recordLength (r ++ q))) all ∙ take-at r q (recordLength (r ++ q)) n in
-    let behind : behindIn (r ++ q) ≡ q = ap (drop (recordLength (r ++ q))) all ∙ drop-at r q (recordLength (r ++ q)) n in
+    let x = stands-first r q whole in
     let idle : Idles h (stepOn h (r ++ q)) =
-    subst (λ (t : List ℕ). Idles h (stepped (valuesOf t) h)) (sym first) (old-idles h r old) in
-    let rest : AtOnce ((stepOn h (r ++ q)) .hall) (behindIn (r ++ q)) rs e w = rw (behind, idle .0) a in
-    steps (ap settles shown) rest (ap (λ (t : List (List ℕ)). t ++ rs) (sym (idle .1)))
+    subst (λ (t : List ℕ). Idles h (stepped (valuesOf t) h)) (sym (x .first)) (old-idles h r old) in
+    let rest : AtOnce ((stepOn h (r ++ q)) .hall) (behindIn (r ++ q)) rs e w = rw (x .behind, idle .0) a in
+    steps (x .there) rest (ap (λ (t : List (List ℕ)). t ++ rs) (sym (idle .1)))
 
 -- ---- records put in
 

@@ -16,7 +16,7 @@ pub record Filling {A : Type 0} (f : ℕ → A) (n : ℕ) (l m : List A) (k : �
   pub filled : m ≡ table k f ++ drop k l
 
 module _ {A : Type 0} (f : ℕ → A) where
-  table-length : (n : ℕ) → length (table n f) ≡ n
+  pub table-length : (n : ℕ) → length (table n f) ≡ n
   unfolding table
   table-length zero = refl
   table-length (suc n) = length-append (table n f) (f n ∷ []) ∙ omega (arith, table-length n)

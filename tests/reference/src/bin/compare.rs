@@ -4,15 +4,14 @@
 use reference::feed::{masks_bytes, run, MASKS_LENGTH};
 use reference::foreign::{self, Cases};
 use reference::generate::input;
-use reference::process::{run_pieces, Running};
+use reference::process::{cut, run_file, run_pieces};
 use reference::random::Random;
 use reference::report::REPORT_LENGTH;
 use reference::score::{same, Score};
 use reference::script;
 use reference::tally::Tally;
 use reference::world::refused_masks;
-use std::fs::File;
-use std::process::{ExitCode, Stdio};
+use std::process::ExitCode;
 use std::time::{Duration, Instant};
 
 const LIMIT: Duration = Duration::from_secs(30);
@@ -71,7 +70,7 @@ fn feeds(watch: &str, number: u64, bytes: u64, score: &mut Score) -> Tally {
             score.check(&format!("{name}, in pieces"), same(output, "report", &reports));
         }
         let output = match seed % 2 {
-            0 => run_file(watch, &bytes),
+            0 => run_file(watch, &bytes, LIMIT),
             _ => run_pieces(watch, vec![bytes], LIMIT),
         };
         score.check(&format!("{name}, whole"), same(output, "report", &reports));
@@ -134,9 +133,9 @@ fn foreign_halls(calls: &str, number: u64, score: &mut Score) -> Cases {
         let end = number.min(begin + HALLS_AT_ONCE);
         let scripts: Vec<Vec<u8>> = (begin..end).map(|seed| foreign::script(seed, &mut cases)).collect();
         let all = plays(calls, scripts.concat());
-        if all.is_ok() {
-            score.check(&format!("halls of seeds {begin} to {end}"), all);
-        } else {
+        let differs = all.is_err();
+        score.check(&format!("halls of seeds {begin} to {end}"), all);
+        if differs {
             for (seed, script) in (begin..end).zip(scripts) {
                 score.check(&format!("hall of seed {seed}"), plays(calls, script));
             }
@@ -149,29 +148,6 @@ fn foreign_halls(calls: &str, number: u64, score: &mut Score) -> Cases {
 fn plays(calls: &str, input: Vec<u8>) -> Result<(), String> {
     let said = script::play(&input);
     same(run_pieces(calls, vec![input], LIMIT), "start or call", &said)
-}
-
-fn run_file(program: &str, input: &[u8]) -> Result<Vec<u8>, String> {
-    let path = std::env::temp_dir().join(format!("compare-{}.feed", std::process::id()));
-    let output = std::fs::write(&path, input)
-        .and_then(|()| File::open(&path))
-        .map_err(|error| format!("can't keep the feed: {error}"))
-        .and_then(|file| Running::start(program, Stdio::from(file), true)?.finish(LIMIT));
-    let _ = std::fs::remove_file(&path);
-    output
-}
-
-/// Pieces of random length, tiny ones too.
-fn cut(mut bytes: &[u8], random: &mut Random) -> Vec<Vec<u8>> {
-    let longest = random.pick(&[200, 1_000, 5_000, 20_000]);
-    let mut pieces = Vec::new();
-    while !bytes.is_empty() {
-        let end = random.pick(&[3, longest, longest, longest]);
-        let (piece, rest) = bytes.split_at((1 + random.index(end)).min(bytes.len()));
-        pieces.push(piece.to_vec());
-        bytes = rest;
-    }
-    pieces
 }
 
 fn reports(input: &[u8]) -> Vec<Vec<u8>> {

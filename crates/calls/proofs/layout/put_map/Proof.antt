@@ -1,9 +1,7 @@
 -- `calls::layout::put_map` meets its contract. Assumes nothing.
-use Prim.Native.Nat.{_+_, _*_, _-_}
-use native.Mathlib.Omega.{arith}
-use mathlib.Core.Path.{refl}
-use lib.ListN.{length, getD}
-use Rattle.calls.proofs.Laid.{Laying, laying-none, laying-next, laying-end, words-length}
+use Prim.Native.Nat.{_-_}
+use Rattle.feed.proofs.Reports.Laying.{Laying, laying-none, laying-next, laying-end}
+use Rattle.calls.proofs.Laid.{words-length}
 use Rattle.cycle.specs.Size.{stringCount, manifoldCount}
 use Rattle.cycle.specs.Map.{masksOf}
 use Rattle.feed.specs.Size.{masksLength}

@@ -1,9 +1,8 @@
 -- `calls::layout::put_strings` meets its contract. Assumes nothing.
-use Prim.Native.Nat.{_+_, _*_, _-_}
-use native.Mathlib.Omega.{arith}
-use mathlib.Core.Path.{refl}
-use lib.ListN.{length, getD}
-use Rattle.calls.proofs.Laid.{Laying, laying-none, laying-next, laying-end, string-length}
+use Prim.Native.Nat.{_-_}
+use lib.ListN.{getD}
+use Rattle.feed.proofs.Reports.Laying.{Laying, laying-none, laying-next, laying-end}
+use Rattle.calls.proofs.Laid.{string-length}
 use Rattle.cycle.specs.Size.{stringCount}
 use Rattle.cycle.specs.Hall.{pastString}
 use Rattle.calls.specs.Layout.{stringLength, inString}

@@ -1,9 +1,8 @@
 -- `calls::layout::put_words` meets its contract. Assumes nothing.
 use Prim.Native.Nat.{_+_, _*_, _-_}
-use native.Mathlib.Omega.{arith}
 use mathlib.Core.Path.{refl}
 use lib.ListN.{length, getD}
-use Rattle.calls.proofs.Laid.{Laying, laying-none, laying-next, laying-end}
+use Rattle.feed.proofs.Reports.Laying.{Laying, laying-none, laying-next, laying-end}
 use Rattle.feed.specs.Size.{wordLength}
 use Rattle.feed.specs.Bytes.{inFour}
 use Rattle.feed.proofs.Reports.Written.{put-part}

@@ -1,0 +1,15 @@
+pub mod Lengths
+pub mod Laid
+pub mod Answering
+pub mod Places
+pub mod WholeWritten
+pub mod Listed
+pub mod ReadBack
+pub mod Slices
+pub mod WriteBack
+pub mod Refusals
+pub mod Sending
+pub mod Feeding
+pub mod WrittenBack
+pub mod InBytes
+pub mod Doing

@@ -1,0 +1,212 @@
+//! The cases that requests have to meet, and how often they did.
+
+use crate::record::{StringMajor, MINOR_LENGTH};
+use crate::request::{Request, LONGEST_OUTBOX};
+use crate::writer::WRITTEN;
+use std::fmt;
+
+/// A case, with a count for each of its variants.
+#[derive(Clone, Debug)]
+struct Case {
+    name: &'static str,
+    met: Vec<u64>,
+    variants: fn(&Request) -> Vec<usize>,
+}
+
+#[derive(Clone, Debug)]
+pub struct Cases(Vec<Case>);
+
+impl Default for Cases {
+    fn default() -> Cases {
+        let case = |(name, number, variants): Named| {
+            let met = vec![0; number];
+            Case { name, met, variants }
+        };
+        Cases(CASES.map(case).to_vec())
+    }
+}
+
+impl Cases {
+    pub fn add(&mut self, request: &Request) {
+        for case in &mut self.0 {
+            for variant in (case.variants)(request) {
+                case.met[variant] += 1;
+            }
+        }
+    }
+
+    /// Demands that every variant of every case was met that often.
+    pub fn each_met(&self, least: u64) -> Result<(), String> {
+        match self.0.iter().find(|case| case.met.iter().any(|met| *met < least)) {
+            None => Ok(()),
+            Some(case) => Err(format!("not met {least} times: {}: {:?}", case.name, case.met)),
+        }
+    }
+}
+
+impl fmt::Display for Cases {
+    fn fmt(&self, lines: &mut fmt::Formatter) -> fmt::Result {
+        self.0.iter().try_for_each(|case| writeln!(lines, "{}: {:?}", case.name, case.met))
+    }
+}
+
+type Named = (&'static str, usize, fn(&Request) -> Vec<usize>);
+
+/// "Alone" is without any other fault. Minors stand before majors, but where only majors count.
+const CASES: [Named; 14] = [
+    ("answers 0, 1, 3; 0, 1, 2, 3", 7, answer),
+    ("faults together: reserved bit +1, short outbox +2; quantity +2, short outbox +4", 12, faults),
+    ("each reserved bit alone, path and valves of each string", 40, reserved_bit_alone),
+    ("several reserved bits", 2, several_reserved_bits),
+    ("each quantity 1,000, written", 6, full_quantities),
+    ("each quantity 1,001 alone", 6, |request| large_quantity_alone(request, 1_001)),
+    ("each quantity 65,535 alone", 6, |request| large_quantity_alone(request, 65_535)),
+    ("several quantities above 1,000", 1, several_large_quantities),
+    ("outbox of 0, one short, exact, one longer, longer, 1,024, else good", 12, outbox),
+    ("a minor's outbox for a major, else good", 1, minors_outbox_for_major),
+    ("written: wire cycle a multiple of 25 or not", 4, wire_cycle),
+    ("written: temperatures below 64, to 32,767, above", 3, temperatures),
+    ("written: jets named neither way, one way, both ways", 3, named),
+    ("written: a major's bytes come to 65,535 at most, to more", 2, size_of_sum),
+];
+
+fn is_short(request: &Request) -> bool {
+    request.outbox_length < request.record_length()
+}
+
+fn is_written(request: &Request) -> bool {
+    request.said()[0] == WRITTEN
+}
+
+/// Bits 4 to 7 of the path byte, then of each valve byte, numbered on.
+fn reserved_bits(request: &Request) -> Vec<usize> {
+    let valves = request.record.strings.map(|string| string.valves);
+    let bytes = [&[request.record.path], &valves[..]].concat();
+    let is_set = |number: &usize| (bytes[number / 4] >> (4 + number % 4)) % 2 == 1;
+    (0..20).filter(is_set).collect()
+}
+
+/// What a major record says of the strings, if it is written.
+fn written_strings(request: &Request) -> Vec<StringMajor> {
+    let major = request.record.major.iter().filter(|_| is_written(request));
+    major.flat_map(|major| major.strings).collect()
+}
+
+fn quantities(request: &Request) -> Vec<u16> {
+    request.record.major.iter().flat_map(|major| major.quantities).flatten().collect()
+}
+
+/// The places of the quantities that hold this.
+fn which(quantities: &[u16], holds: impl Fn(u16) -> bool) -> Vec<usize> {
+    (0..quantities.len()).filter(|place| holds(quantities[*place])).collect()
+}
+
+fn large_quantities(request: &Request) -> Vec<usize> {
+    which(&quantities(request), |quantity| quantity > 1_000)
+}
+
+/// A variant if it holds.
+fn only(holds: bool, variant: usize) -> Vec<usize> {
+    holds.then_some(variant).into_iter().collect()
+}
+
+fn answer(request: &Request) -> Vec<usize> {
+    let answer = usize::from(request.said()[0]);
+    vec![match (request.is_major(), answer) {
+        (true, _) => 3 + answer,
+        (false, 3) => 2,
+        (false, _) => answer,
+    }]
+}
+
+fn faults(request: &Request) -> Vec<usize> {
+    let reserved = usize::from(!reserved_bits(request).is_empty());
+    let large = usize::from(!large_quantities(request).is_empty());
+    let short = usize::from(is_short(request));
+    vec![match request.is_major() {
+        true => 4 + reserved + 2 * large + 4 * short,
+        false => reserved + 2 * short,
+    }]
+}
+
+fn reserved_bit_alone(request: &Request) -> Vec<usize> {
+    match reserved_bits(request)[..] {
+        [bit] if large_quantities(request).is_empty() && !is_short(request) => {
+            vec![20 * usize::from(request.is_major()) + bit]
+        }
+        _ => vec![],
+    }
+}
+
+fn several_reserved_bits(request: &Request) -> Vec<usize> {
+    only(reserved_bits(request).len() > 1, request.is_major().into())
+}
+
+fn full_quantities(request: &Request) -> Vec<usize> {
+    match is_written(request) {
+        true => which(&quantities(request), |quantity| quantity == 1_000),
+        false => vec![],
+    }
+}
+
+fn large_quantity_alone(request: &Request, size: u16) -> Vec<usize> {
+    let large = large_quantities(request);
+    if large.len() != 1 || !reserved_bits(request).is_empty() || is_short(request) {
+        return vec![];
+    }
+    which(&quantities(request), |quantity| quantity == size)
+}
+
+fn several_large_quantities(request: &Request) -> Vec<usize> {
+    only(large_quantities(request).len() > 1, 0)
+}
+
+fn outbox(request: &Request) -> Vec<usize> {
+    if !reserved_bits(request).is_empty() || !large_quantities(request).is_empty() {
+        return vec![];
+    }
+    let (length, needed) = (request.outbox_length, request.record_length());
+    let variant = if length == 0 {
+        0
+    } else if length == LONGEST_OUTBOX {
+        5
+    } else if length + 1 < needed {
+        return vec![];
+    } else {
+        (length + 2 - needed).min(4)
+    };
+    vec![6 * usize::from(request.is_major()) + variant]
+}
+
+fn minors_outbox_for_major(request: &Request) -> Vec<usize> {
+    let is_good = reserved_bits(request).is_empty() && large_quantities(request).is_empty();
+    only(is_good && request.is_major() && request.outbox_length == MINOR_LENGTH, 0)
+}
+
+fn wire_cycle(request: &Request) -> Vec<usize> {
+    let other = usize::from(!request.record.wire.is_multiple_of(25));
+    only(is_written(request), 2 * usize::from(request.is_major()) + other)
+}
+
+fn temperatures(request: &Request) -> Vec<usize> {
+    let strings = written_strings(request);
+    let words: Vec<u16> = strings.iter().flat_map(|string| string.temperatures).flatten().collect();
+    let sizes = [0..=63, 64..=32_767, 32_768..=65_535];
+    (0..3).filter(|size| words.iter().any(|word| sizes[*size].contains(word))).collect()
+}
+
+fn named(request: &Request) -> Vec<usize> {
+    let strings = written_strings(request);
+    let any = |word: fn(&StringMajor) -> u32| strings.iter().any(|string| word(string) != 0);
+    let neither = any(|string| !(string.inhibit | string.re_enable));
+    let one = any(|string| string.inhibit ^ string.re_enable);
+    let both = any(|string| string.inhibit & string.re_enable);
+    [only(neither, 0), only(one, 1), only(both, 2)].concat()
+}
+
+fn size_of_sum(request: &Request) -> Vec<usize> {
+    let bytes = request.record.bytes();
+    let summed = &bytes[..bytes.len() - 2];
+    let all: u32 = summed.iter().map(|byte| u32::from(*byte)).sum();
+    only(request.is_major() && is_written(request), usize::from(all > 65_535))
+}
