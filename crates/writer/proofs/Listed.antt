@@ -1,5 +1,5 @@
--- Lists by a rule of their places: what holds of their elements, and that a list whose elements keep the rule is the list by it. Assumes
--- nothing.
+-- Lists by a rule of their places: what holds of their elements, and that a list whose elements keep the rule is the list by it.
+-- Assumes nothing.
 use mathlib.Core.Path.{_≡_, sym, subst, _∙_}
 use mathlib.Core.List.{List}
 use Prim.Native.Nat.{ℕ, _<_}

@@ -23,13 +23,12 @@ use Rattle.feed.specs.Call.{holds, holding, Result, called, call}
 use Rattle.feed.specs.Calls.{joined}
 use Rattle.feed.specs.OneRecord.{settledTo, waitingFor}
 use Rattle.feed.specs.declared.call.Monitor.{Monitor}
-use Rattle.feed.proofs.Records.Lengths.{below-or}
+use Rattle.feed.proofs.Records.Lengths.{below-or, empty-list}
 use Rattle.feed.proofs.Reading.FirstRecord.{stands-first}
 use Rattle.feed.proofs.Reports.ReportLengths.{report-length}
 use Rattle.feed.proofs.Calls.Turning.{holds-same}
 use Rattle.feed.proofs.Calls.Calling.{call-called}
 use Rattle.feed.proofs.Calls.Steps.{stepped-reports}
-use Rattle.feed.proofs.Calls.NextRecord.{empty-list}
 use Rattle.feed.proofs.Calls.WholeCalls.{whole-call, begun-call}
 use Rattle.writer.specs.RecordBytes.{bytesOf}
 use Rattle.writer.specs.Write.{write}

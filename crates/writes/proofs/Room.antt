@@ -1,6 +1,6 @@
 -- The reply to a request that is allowed, a number and the outbox, fits in as many bytes as the longest takes. Assumes nothing.
-use mathlib.Core.Path.{_≡_, refl}
-use mathlib.Core.Bool.{Bool, true, false, _&&_}
+use mathlib.Core.Path.{_≡_}
+use mathlib.Core.Bool.{true}
 use mathlib.Core.List.{List}
 use Prim.Native.Nat.{ℕ, _+_, _≤_}
 use native.Mathlib.Omega.{arith}
@@ -8,13 +8,9 @@ use borrow.Author.Tests.{leb-true}
 use lib.Dec.{leb}
 use lib.ListN.{length, take, replicate, length-replicate}
 use lib.Seq.{length-take-le}
+use Rattle.bits.proofs.Yes.{and-right}
 use Rattle.writes.specs.Request.{majorAsked, longestOutbox, allowed}
 use Rattle.writes.specs.declared.request.Header.{Header}
-
-second : (a b : Bool) → (a && b) ≡ true → b ≡ true
-second true b e = e
-second false true e = refl
-second false false e = e
 
 -- before the longest reply is written
 abbrev longest : List ℕ
@@ -23,7 +19,7 @@ longest = replicate (1 + longestOutbox) 0
 module _ (h : Header) (e : allowed h ≡ true) where
   room-fits : h .room ≤ longestOutbox
   unfolding allowed
-  room-fits = leb-true (h .room) longestOutbox (second (leb (h .kind) majorAsked) (leb (h .room) longestOutbox) e)
+  room-fits = leb-true (h .room) longestOutbox (and-right (leb (h .kind) majorAsked) (leb (h .room) longestOutbox) e)
 
   pub reply-fits : 1 + h .room ≤ 1 + longestOutbox
   reply-fits = omega (arith, room-fits)

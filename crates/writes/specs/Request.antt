@@ -20,7 +20,8 @@ majorAsked = 1
 abbrev pub longestOutbox : ℕ
 longestOutbox = 1024
 
--- what comes before the values: "its kind (1 byte: ..), the outbox's length (2, ..), the byte that the outbox is filled with beforehand (1)"
+-- what comes before the values: "its kind (1 byte: ..), the outbox's length (2, ..), the byte that the outbox is filled with beforehand
+-- (1)"
 abbrev pub headerIn : List ℕ → Header
 headerIn l = record { kind = getD l 0 0; room = two l 1; fill = getD l 3 0 }
 

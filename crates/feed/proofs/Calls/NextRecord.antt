@@ -2,7 +2,7 @@
 -- brings its last byte, and by none before. Assumes nothing.
 use mathlib.Core.Path.{_≡_, refl, sym, ap, ap₂, subst, _∙_}
 use mathlib.Core.Bool.{true}
-use mathlib.Core.List.{List, [], _∷_, _++_, append-assoc, append-nil}
+use mathlib.Core.List.{List, [], _++_, append-assoc, append-nil}
 use mathlib.Core.Logic.{_⊎_, inl, inr}
 use Prim.Native.Nat.{ℕ, _+_, _<_, _≤_}
 use native.Mathlib.Omega.{arith}
@@ -16,7 +16,7 @@ use Rattle.feed.specs.Settled.{recordIn}
 use Rattle.feed.specs.Answered.{Read, Leaves}
 use Rattle.feed.specs.Call.{holds, Result, call}
 use Rattle.feed.specs.declared.call.Monitor.{Monitor}
-use Rattle.feed.proofs.Records.Lengths.{below-or}
+use Rattle.feed.proofs.Records.Lengths.{below-or, empty-list}
 use Rattle.feed.proofs.Records.Goods.{whole-some}
 use Rattle.feed.proofs.Reading.FirstRecord.{stands-first}
 use Rattle.feed.proofs.Calls.Turning.{holds-same}
@@ -43,10 +43,6 @@ module _ (m : Monitor) (piece out r : List ℕ) (whole : WholeRecord r) (room : 
       by : (0 < length (reading .dropped)) ⊎ (length (reading .dropped) ≤ 0) → length (reading .dropped) ≡ 0
       by (inl l) = absurd (reading .noneLost 0 l later r rest e whole)
       by (inr l) = omega arith
-
-pub empty-list : (l : List ℕ) → length l ≡ 0 → l ≡ []
-empty-list [] e = refl
-empty-list (a ∷ l) e = absurd (omega arith)
 
 -- of the bytes of a whole record, it is the first
 record-alone : (r : List ℕ) → WholeRecord r → recordIn r ≡ r

@@ -18,13 +18,14 @@ use Rattle.feed.specs.Settled.{hasRecord, recordIn, behindIn, valuesIn}
 use Rattle.feed.specs.Call.{holds, holding, Result, call, called}
 use Rattle.feed.specs.OneRecord.{settledTo, waitingFor}
 use Rattle.feed.specs.declared.call.Monitor.{Monitor}
+use Rattle.feed.proofs.Records.Lengths.{empty-list}
 use Rattle.feed.proofs.Reading.Fronts.{waits-short}
 use Rattle.feed.proofs.Reading.FirstRecord.{stands-first}
 use Rattle.feed.proofs.Calls.Turning.{holds-same}
 use Rattle.feed.proofs.Calls.Calling.{call-called}
 use Rattle.feed.proofs.Calls.CallCases.{CallCase, none, some, call-case}
 use Rattle.feed.proofs.Calls.Steps.{stepped-reports}
-use Rattle.feed.proofs.Calls.NextRecord.{empty-list, last-byte-settles, begun-waits}
+use Rattle.feed.proofs.Calls.NextRecord.{last-byte-settles, begun-waits}
 
 module _ (m : Monitor) (x rest out r : List ℕ) (whole : WholeRecord r) (here : holds m ++ x ≡ r) (room : outboxNeeded ≤ length out) where
   abbrev stands : holds m ++ (x ++ rest) ≡ r ++ rest

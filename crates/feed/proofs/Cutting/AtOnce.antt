@@ -48,7 +48,11 @@ at-once-fixed (rests z r) (steps y b q) = not-both _ y z
 at-once-fixed (steps z a r) (rests y q) = not-both _ z y
 at-once-fixed {h = h} {l = l} (steps z a r) (steps y b q) =
     let s = at-once-fixed a b in
-    record { reports = r ∙ ap (λ (t : List (List ℕ)). reportTaken (stepOn h l) ++ t) (s .reports) ∙ sym q; hall = s .hall; waiting = s .waiting }
+    record {
+      reports = r ∙ ap (λ (t : List (List ℕ)). reportTaken (stepOn h l) ++ t) (s .reports) ∙ sym q;
+      hall = s .hall;
+      waiting = s .waiting;
+    }
 
 -- ---- bytes behind a record
 

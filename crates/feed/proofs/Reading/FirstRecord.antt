@@ -1,5 +1,5 @@
--- The record that stands first among bytes: its length, that it is whole, and that a whole record which stands there is it. Assumes
--- nothing.
+-- The record that stands first among bytes: its length, that it is whole, and that a whole record which stands there is it.
+-- Assumes nothing.
 use mathlib.Core.Bool.{true, false}
 use mathlib.Core.List.{List, [], _++_}
 use mathlib.Core.Logic.{_⊎_, inl, inr}

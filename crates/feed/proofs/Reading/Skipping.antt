@@ -1,7 +1,7 @@
 -- Where nothing is held, bytes that cannot begin a mark may be passed over. Assumes nothing.
 use Prim.Native.Nat.{ℕ, _+_, _<_, _≤_}
 use mathlib.Core.Path.{_≡_, refl, sym, ap, _∙_}
-use mathlib.Core.List.{List, [], _∷_}
+use mathlib.Core.List.{List, []}
 use mathlib.Core.Logic.{_⊎_, inl, inr, ⊎-elim}
 use native.Mathlib.Nat.{eq-or-lt-of-le}
 use native.Mathlib.Omega.{arith}
@@ -13,7 +13,7 @@ use Rattle.feed.specs.Format.{look}
 use Rattle.feed.specs.Reader.{settle, reads, Stop}
 use Rattle.feed.specs.Inside.Finding.{Skips, StopsAt}
 use Rattle.feed.specs.declared.format.Look.the-variants.{Drops}
-use Rattle.feed.proofs.Records.Lengths.{below-or}
+use Rattle.feed.proofs.Records.Lengths.{below-or, empty-list}
 use Rattle.feed.proofs.Reading.Reads.{reads-same}
 use Rattle.feed.proofs.Reading.InPlace.{drops-one}
 use Rattle.feed.proofs.Reading.Finding.{Passed, passed-none, passed-more}
@@ -64,16 +64,12 @@ skip-once n piece from r q k a g b =
     omega arith)
     (λ (l : 0 < n). k .stays l ∙ sym (g .stays l)) (eq-or-lt-of-le (omega arith))
 
-none : (l : List ℕ) → 0 ≡ length l → l ≡ []
-none [] e = refl
-none (x ∷ l) e = absurd (omega arith)
-
 -- a turn of the store's loop that has settled what it held goes on behind what is passed over
 module _ (s : Stop) (piece b : List ℕ) (n used : ℕ) (t : Turn s piece b n used) (m r : ℕ) (e : m ≡ length (settle (t .held)))
     (k : Skips m piece used r) where
   settles : 0 ≡ m → (p : List ℕ) → reads (t .held) p ≡ reads [] p
   unfolding settle
-  settles z p = reads-same (t .held) [] p (none (settle (t .held)) (z ∙ e))
+  settles z p = reads-same (t .held) [] p (empty-list (settle (t .held)) (sym (z ∙ e)))
 
   pub skip-same : reads (t .held) (drop r piece) ≡ s
   skip-same =

@@ -3,9 +3,11 @@
 use Prim.Native.Nat.{ℕ, _≤_, _<_}
 use mathlib.Core.Path.{_≡_, refl}
 use mathlib.Core.Bool.{Bool, true, false, cond}
+use mathlib.Core.List.{List, [], _∷_}
 use mathlib.Core.Logic.{_⊎_, inl, inr}
 use native.Mathlib.Omega.{arith}
 use lib.Dec.{ltb}
+use lib.ListN.{length}
 use borrow.Author.Tests.{ltb-true, ltb-false}
 use Rattle.bits.proofs.Yes.{not-both}
 use Rattle.feed.specs.Size.{storeLength, leastLength}
@@ -31,6 +33,10 @@ pub below-or : (a b : ℕ) → (a < b) ⊎ (b ≤ a)
 below-or a b = by-test (ltb a b) (λ t. inl (ltb-true a b t)) (λ t. inr (ltb-false a b t))
 
 -- ---- lengths
+
+pub empty-list : (l : List ℕ) → length l ≡ 0 → l ≡ []
+empty-list [] e = refl
+empty-list (a ∷ l) e = absurd (omega arith)
 
 -- no record is longer than the store, and none shorter than the least
 pub kind-fits : (k : Kind) → lengthOf k ≤ storeLength
