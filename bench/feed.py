@@ -1,8 +1,10 @@
 #!/usr/bin/env python3
-"""feed.py clean RECORDS | noise BYTES | marks BYTES: a map and a feed for `watch`, the same at every run.
+"""feed.py clean|majors|noise|marks JETS AMOUNT: a map and a feed for `watch`, the same at every run.
 
-clean: records of the right kind, one after the other, all four strings mapped; 90,000 are an hour.
-noise: random bytes. marks: nothing but the mark of a major record, over and over."""
+JETS: how many jets of each string are mapped, 32, 11 or 0.
+clean: records of the right kind, one after the other; 90,000 are an hour. majors: those of cycles 25, 50, ... alone.
+noise: random bytes. marks: nothing but the mark of a major record, over and over.
+AMOUNT: records of clean and majors, bytes of noise and marks."""
 import pathlib
 import random
 import sys
@@ -10,7 +12,12 @@ import sys
 sys.path.append(str(pathlib.Path(__file__).resolve().parent.parent / "tests/nights"))
 from records import ALL_OPEN, JETS, MAJOR_EVERY, MODULES, STRINGS, map_bytes, major, minor
 
-MASKS = [[0x000000FF, 0x0000FF00, 0x00FF0000, 0xFF000000]] * STRINGS
+MASKS = {
+    32: [0x000000FF, 0x0000FF00, 0x00FF0000, 0xFF000000],
+    # 3, 3, 3 and 2 jets, the lowest of each manifold's eight
+    11: [0x00000007, 0x00000700, 0x00070000, 0x03000000],
+    0: [0, 0, 0, 0],
+}
 
 
 def string(rng):
@@ -31,20 +38,24 @@ def busy(cycle, rng):
     return major(cycle, strings=strings, temps=temps, banks=banks)
 
 
-def main():
-    kind, amount = sys.argv[1], int(sys.argv[2])
+def feed(kind, amount):
     rng = random.Random(7)
-    out = sys.stdout.buffer
-    out.write(map_bytes(MASKS))
     if kind == "clean":
-        for cycle in range(1, amount + 1):
-            out.write(busy(cycle, rng))
-    elif kind == "noise":
-        out.write(rng.randbytes(amount))
-    elif kind == "marks":
-        out.write((b"\x52\x4A" * amount)[:amount])
-    else:
+        return b"".join(busy(cycle, rng) for cycle in range(1, amount + 1))
+    if kind == "majors":
+        return b"".join(busy(MAJOR_EVERY * second, rng) for second in range(1, amount + 1))
+    if kind == "noise":
+        return rng.randbytes(amount)
+    if kind == "marks":
+        return (b"\x52\x4A" * amount)[:amount]
+    sys.exit(__doc__)
+
+
+def main():
+    if len(sys.argv) != 4 or int(sys.argv[2]) not in MASKS:
         sys.exit(__doc__)
+    kind, jets, amount = sys.argv[1], int(sys.argv[2]), int(sys.argv[3])
+    sys.stdout.buffer.write(map_bytes([MASKS[jets]] * STRINGS) + feed(kind, amount))
 
 
 main()

@@ -5,7 +5,6 @@ use crate::record::*;
 const STRINGS: usize = 4;
 const MANIFOLDS: usize = 4;
 const MODULES: usize = 3;
-const JETS: usize = 32;
 const MAJOR_EVERY: u32 = 25;
 const LEAK_BELOW: u16 = 64;
 const MOST_APART: u16 = 16;
@@ -222,7 +221,7 @@ impl JetString {
 
         let sample = SAMPLES + SAMPLE_LENGTH * s;
         let (commanded, driver) = (word(record, sample), word(record, sample + 8));
-        let bad = self.mapped & !commanded & (driver | leaking(record, s));
+        let bad = self.mapped & !commanded & (driver | self.leaking(record, s));
         let close = self.recheck & bad & !self.reenable;
         for (i, mask) in self.masks.iter().enumerate() {
             self.close |= u8::from(mask & close != 0) << i;
@@ -232,16 +231,25 @@ impl JetString {
         self.standing.fail = fail | self.recheck;
         self.good = self.standing;
     }
+
+    /// The jets of which a temperature word shows a leak, where any jet is mapped.
+    fn leaking(&self, record: &MajorRecord, s: usize) -> u32 {
+        if self.mapped == 0 {
+            return 0;
+        }
+        let from = TEMPERATURES + TEMPERATURES_LENGTH * s;
+        let (low, high) = record[from..from + TEMPERATURES_LENGTH].split_at(TEMPERATURES_LENGTH / 2);
+        u32::from(half_leaking(low)) | u32::from(half_leaking(high)) << 16
+    }
 }
 
-/// The jets of which a temperature word shows a leak.
-fn leaking(record: &MajorRecord, s: usize) -> u32 {
-    let from = TEMPERATURES + TEMPERATURES_LENGTH * s;
-    let mut leaking = 0;
-    for jet in 0..JETS {
-        let fuel = half_word(record, from + 4 * jet);
-        let oxidizer = half_word(record, from + 4 * jet + 2);
-        leaking |= u32::from(fuel < LEAK_BELOW || oxidizer < LEAK_BELOW) << jet;
-    }
-    leaking
+/// Sixteen jets, mapped or not: the result is as wide as a word, so that the compiler tests eight words at once,
+/// which costs less than a walk over eleven mapped jets.
+fn half_leaking(temperatures: &[u8]) -> u16 {
+    temperatures.chunks_exact(2).enumerate().fold(0, |leaking, (i, word)| {
+        let word = u16::from_be_bytes(word.try_into().expect("two bytes each"));
+        // Below 64, a power of two, asked so that no byte need be swapped.
+        let leaks = word & !(LEAK_BELOW - 1) == 0;
+        leaking | if leaks { 1 << (i / 2) } else { 0 }
+    })
 }

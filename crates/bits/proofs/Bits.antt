@@ -8,7 +8,7 @@ use native.Mathlib.Numerals.{one-add}
 use native.Mathlib.Omega.{arith}
 use lib.Dec.{eqb, eqb·zero-suc, eqb·suc-zero, eqb·suc-suc}
 use lib.Arith.{lt-one}
-use lib.Pow.{shr-shr, pow-pos, field, mod-mod-pow}
+use lib.Pow.{shr-shr, pow-pos, pow-lt, pow-mono, field, mod-mod-pow}
 use lib.Bits.{bitAnd, bitOr, bitXor, and-shr, and-mod, or-shr, or-mod, xor-shr, xor-mod, and-le-l, xor-lt}
 use Rattle.bits.specs.Bit.{bit, without}
 use Rattle.bits.proofs.Yes.{not-both}
@@ -115,6 +115,17 @@ bit-ext (suc k) a b ha hb e =
     digits (λ x y. eqb x 1 ≡ eqb y 1 → x ≡ y) (λ p. refl) (λ p. not-both false p refl) (λ p. not-both true refl p) (λ p. refl)
     (a % 2) (b % 2) (mod-lt a two) (mod-lt b two) same in
     omega arith
+
+-- and so are two words of any width
+below-power : (n : ℕ) → n < 2 ^ n
+below-power zero = omega arith
+below-power (suc n) = omega (arith, below-power n, pow-lt {i = n} {j = suc n} (omega arith))
+
+pub bits-same : (a b : ℕ) → ((j : ℕ) → bit j a ≡ bit j b) → a ≡ b
+bits-same a b same =
+    let more : 2 ^ a ≤ 2 ^ (a + b) = pow-mono (omega arith) in
+    let also : 2 ^ b ≤ 2 ^ (a + b) = pow-mono (omega arith) in
+    bit-ext (a + b) a b (omega (arith, below-power a)) (omega (arith, below-power b)) (λ j l. same j)
 
 -- ---- `a & !b` is what `without` says
 

@@ -57,6 +57,9 @@ pub or-false : (a : Bool) → (a || false) ≡ a
 or-false true = refl
 or-false false = refl
 
+pub or-neither : (a b : Bool) → a ≡ false → b ≡ false → (a || b) ≡ false
+or-neither a b p q = rw (p, q)
+
 pub or-none-left : (a b : Bool) → (a || b) ≡ false → a ≡ false
 or-none-left true b e = e
 or-none-left false b e = refl

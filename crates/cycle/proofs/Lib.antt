@@ -6,6 +6,8 @@ pub mod Quiet
 pub mod Loops
 pub mod Maps
 pub mod Leaks
+pub mod CutWords
+pub mod MappedLeaks
 pub mod Balance
 pub mod SetsKept
 pub mod ProperKept

@@ -7,7 +7,6 @@ use Prim.Native.Nat.{ℕ, _<_}
 use lib.Bits.{bitAnd, bitOr}
 use Rattle.bits.specs.Bit.{bit, without}
 use Rattle.bits.proofs.Bits.{bit-and, bit-or, bit-without}
-use Rattle.bits.proofs.Words.{pack-at}
 use Rattle.cycle.specs.Size.{jetCount}
 use Rattle.cycle.specs.Map.{inMask, mapped}
 use Rattle.cycle.specs.Jets as jets
@@ -18,12 +17,8 @@ use Rattle.cycle.specs.declared.values.Sample.{Sample}
 use Rattle.cycle.specs.declared.values.Temperatures.{Temperatures}
 use Rattle.cycle.specs.declared.values.Requests.{Requests}
 use Rattle.cycle.proofs.Maps.{mapped-jet}
+use Rattle.cycle.proofs.MappedLeaks.{leak-at}
 use Rattle.cycle.proofs.StepsAgree.{requested-agrees}
-
--- the leak word
-leak-agrees : (t : Temperatures) (j : ℕ) → j < jetCount → bit j (words.leakWord t) ≡ words.jetLeaks (t .words) j
-unfolding words.leakWord
-leak-agrees t j = pack-at jetCount (words.jetLeaks (t .words)) j
 
 module _ (m i j : ℕ) (masks : List ℕ) (below : i < m) (stands : inMask masks i j) where
   -- a word cut down to mapped jets has the jet's bit still
@@ -46,7 +41,7 @@ module _ (m i j : ℕ) (masks : List ℕ) (below : i < m) (stands : inMask masks
         let shows : ℕ = bitOr (x .driver) (words.leakWord t) in
         let acts : Bool = bit j (x .driver) || words.jetLeaks (t .words) j in
         let e : bit j shows ≡ acts =
-        bit-or j (x .driver) (words.leakWord t) ∙ ap (λ (b : Bool). bit j (x .driver) || b) (leak-agrees t j inWord) in
+        bit-or j (x .driver) (words.leakWord t) ∙ ap (λ (b : Bool). bit j (x .driver) || b) (leak-at t j inWord) in
         bit-without j (bitAnd (mapped m masks) shows) (x .commanded)
         ∙ ap (λ (b : Bool). b && not (bit j (x .commanded))) (heard shows ∙ e)
         ∙ and-comm acts (not (bit j (x .commanded)))

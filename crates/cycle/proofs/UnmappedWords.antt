@@ -1,16 +1,14 @@
 -- What a string's cycle does depends only on what a record says of mapped jets, and on its valves and path. Assumes nothing.
 use mathlib.Core.Path.{_≡_, refl, sym, ap, ap₂, _∙_}
-use mathlib.Core.Bool.{Bool, true, false, not, cond, _&&_, _||_}
+use mathlib.Core.Bool.{Bool, true, false, cond, _||_}
 use mathlib.Core.List.{List}
-use Prim.Native.Nat.{ℕ, zero, suc, _+_, _<_, _≤_, _^_}
-use native.Mathlib.Omega.{arith}
+use Prim.Native.Nat.{ℕ}
 use borrow.Author.Tests.{ltb-true, ltb-false}
 use lib.Bits.{bitAnd, bitOr}
 use lib.Dec.{ltb}
-use lib.Pow.{pow-lt, pow-mono}
-use Rattle.bits.specs.Bit.{bit, without}
-use Rattle.bits.proofs.Bits.{bit-and, bit-or, bit-without, bit-past, bit-ext}
-use Rattle.bits.proofs.Words.{pack-at, pack-lt}
+use Rattle.bits.specs.Bit.{bit}
+use Rattle.bits.proofs.Bits.{bit-or, bit-past}
+use Rattle.bits.proofs.Words.{pack-lt}
 use Rattle.cycle.specs.Size.{jetCount, manifoldCount}
 use Rattle.cycle.specs.Map.{mapped}
 use Rattle.cycle.specs.Words.{offFailure, manifolds, gapped, recovered, jetLeaks, leakWord, badJets, badOf, requested}
@@ -21,18 +19,8 @@ use Rattle.cycle.specs.declared.string.StringState.{StringState}
 use Rattle.cycle.specs.declared.values.Sample.{Sample}
 use Rattle.cycle.specs.declared.values.Temperatures.{Temperatures}
 use Rattle.cycle.specs.declared.values.Requests.{Requests}
-
--- ---- words of the same bits
-
-below-power : (n : ℕ) → n < 2 ^ n
-below-power zero = omega arith
-below-power (suc n) = omega (arith, below-power n, pow-lt {i = n} {j = suc n} (omega arith))
-
-words-same : (a b : ℕ) → ((j : ℕ) → bit j a ≡ bit j b) → a ≡ b
-words-same a b same =
-    let more : 2 ^ a ≤ 2 ^ (a + b) = pow-mono (omega arith) in
-    let also : 2 ^ b ≤ 2 ^ (a + b) = pow-mono (omega arith) in
-    bit-ext (a + b) a b (omega (arith, below-power a)) (omega (arith, below-power b)) (λ j l. same j)
+use Rattle.cycle.proofs.CutWords.{Agree, cut-same, less-same}
+use Rattle.cycle.proofs.MappedLeaks.{leak-at}
 
 pub leak-same : (t u : Temperatures) (j : ℕ) → jetLeaks (t .words) j ≡ jetLeaks (u .words) j → bit j (leakWord t) ≡ bit j (leakWord u)
 unfolding leakWord
@@ -41,40 +29,11 @@ leak-same t u j e = by (ltb j jetCount) refl
     by : (b : Bool) → ltb j jetCount ≡ b → bit j (leakWord t) ≡ bit j (leakWord u)
     by true l =
         let below = ltb-true j jetCount l in
-        pack-at jetCount (jetLeaks (t .words)) j below ∙ e ∙ sym (pack-at jetCount (jetLeaks (u .words)) j below)
+        leak-at t j below ∙ e ∙ sym (leak-at u j below)
     by false l =
         let past = ltb-false j jetCount l in
         bit-past jetCount j (leakWord t) (pack-lt jetCount (jetLeaks (t .words))) past
         ∙ sym (bit-past jetCount j (leakWord u) (pack-lt jetCount (jetLeaks (u .words))) past)
-
--- ---- words cut down to the mapped jets
-
--- the two agree wherever the word `jets` has a bit
-abbrev Agree : ℕ → ℕ → ℕ → Type 0
-Agree jets a b = (j : ℕ) → bit j jets ≡ true → bit j a ≡ bit j b
-
-cut-bit : (m a b : Bool) → (m ≡ true → a ≡ b) → (m && a) ≡ (m && b)
-cut-bit true a b e = e refl
-cut-bit false a b e = refl
-
-cut-same : (jets a b : ℕ) → Agree jets a b → bitAnd jets a ≡ bitAnd jets b
-cut-same jets a b e =
-    words-same (bitAnd jets a) (bitAnd jets b)
-    (λ j. bit-and j jets a ∙ cut-bit (bit j jets) (bit j a) (bit j b) (e j) ∙ sym (bit-and j jets b))
-
-without-bit : (m a b c d : Bool) → (m ≡ true → a ≡ b) → (m ≡ true → c ≡ d) → ((m && a) && not c) ≡ ((m && b) && not d)
-without-bit true a b c d e f = ap₂ (λ (x y : Bool). x && not y) (e refl) (f refl)
-without-bit false a b c d e f = refl
-
--- what is left of a word cut down, less another word
-less-same : (jets a b c d : ℕ) → Agree jets a b → Agree jets c d → without (bitAnd jets a) c ≡ without (bitAnd jets b) d
-less-same jets a b c d e f = words-same (without (bitAnd jets a) c) (without (bitAnd jets b) d)
-    (λ j.
-    bit-without j (bitAnd jets a) c
-    ∙ ap (λ (x : Bool). x && not (bit j c)) (bit-and j jets a)
-    ∙ without-bit (bit j jets) (bit j a) (bit j b) (bit j c) (bit j d) (e j) (f j)
-    ∙ ap (λ (x : Bool). x && not (bit j d)) (sym (bit-and j jets b))
-    ∙ sym (bit-without j (bitAnd jets b) d))
 
 -- step 3, by its newest slot
 abbrev offNewest : ℕ → StringState → StringState

@@ -6,6 +6,9 @@ pub const STRINGS: usize = 4;
 // A string has 32 jets.
 pub const JETS: usize = 32;
 
+// All jets of a string: a bit for each. In a wider word first, which has room for one bit more.
+pub const ALL_JETS: u32 = ((1u64 << JETS) - 1) as u32;
+
 // Each string has four manifolds.
 pub const MANIFOLDS: usize = 4;
 

@@ -362,7 +362,7 @@ impl StringState {
             self
         } else {
             let mapped = masks.mapped();
-            let leaking = leak_word(t);
+            let leaking = leak_word(mapped, t);
             let bad = bad_jets(mapped, sample.commanded, sample.driver, leaking);
             let a = self.requested(mapped & q.inhibit, mapped & q.reenable);
             let b = a.rechecked(masks, bad);

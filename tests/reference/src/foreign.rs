@@ -5,12 +5,13 @@
 use crate::hall::{overlap, Hall, OUTBOX_SHORT, TAKEN};
 use crate::jet::{bit, leaks, Jet};
 use crate::jet_string::JetString;
+use crate::leak_cases::LeakCases;
 use crate::monitor::{Monitor, MOST_HELD, STORE_LENGTH};
 use crate::random::Random;
 use crate::record::{Record, StringMajor, StringWords};
 use crate::script::{call, state, WHOLE_HALL};
 use crate::state::{hall_from, masks_of, HALL_LENGTH};
-use crate::world::{masks, quantities, warm};
+use crate::world::{masks, quantities, telling_leaks, temperatures};
 
 /// How often each case was met. Strings, manifolds and jets are counted at taken records whose path
 /// bit is clear, unless said otherwise.
@@ -139,7 +140,7 @@ fn has_bits_in_no_mask(jet: &Jet) -> bool {
 }
 
 /// The script of a seed: a hall and one to three calls.
-pub fn script(seed: u64, cases: &mut Cases) -> Vec<u8> {
+pub fn script(seed: u64, cases: &mut Cases, leak_cases: &mut LeakCases) -> Vec<u8> {
     // Far from the seeds of feeds and scripts.
     let mut random = Random(0x4A11_0000_0000 + seed);
     let hall = hall(&mut random);
@@ -160,6 +161,9 @@ pub fn script(seed: u64, cases: &mut Cases) -> Vec<u8> {
         let before = monitor.hall.clone();
         let (answer, _) = monitor.call(&piece, &mut outbox);
         cases.add(answer, &before, &record, &monitor.hall);
+        if answer == TAKEN {
+            leak_cases.add_call(&record, &monitor.hall);
+        }
         // Where the outbox was short, the caller tries again.
         if answer != OUTBOX_SHORT {
             (record, piece) = next_piece(&monitor.hall, &mut random);
@@ -325,13 +329,9 @@ fn string_words(string: &JetString, words: &mut Words, random: &mut Random) -> S
 }
 
 fn string_major(words: &mut Words, random: &mut Random) -> StringMajor {
-    let leaking = words.next(random);
-    let mut temperatures = [[0; 2]; 32];
-    for (jet, pair) in temperatures.iter_mut().enumerate() {
-        *pair = [(); 2].map(|_| warm(random));
-        if bit(leaking, jet) {
-            pair[random.index(2)] = random.pick(&[0, 1, 32, 62, 63]);
-        }
-    }
+    // The mapped jets are the first of the known words.
+    let telling = telling_leaks(words.0[0], random);
+    let leaking = if random.one_in(4) { random.pick(&telling) } else { words.next(random) };
+    let temperatures = temperatures(leaking, random);
     StringMajor { temperatures, inhibit: words.next(random), re_enable: words.next(random) }
 }

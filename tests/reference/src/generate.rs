@@ -2,9 +2,10 @@
 //! makes up bytes.
 
 use crate::feed::{masks_bytes, MASKS_LENGTH};
+use crate::hall::Masks;
 use crate::random::Random;
 use crate::record::{sum, Record, MAJOR, MAJOR_LENGTH, MARK, MINOR, MINOR_LENGTH};
-use crate::world::{masks, Chances, World};
+use crate::world::{masks, telling_leaks, union, Chances, World};
 
 #[derive(Clone, Debug)]
 pub struct Night {
@@ -21,11 +22,16 @@ pub struct Night {
 /// how many spots of it are damaged.
 pub fn input(seed: u64, size: usize) -> (Vec<u8>, u64) {
     let mut random = Random(seed);
-    let mut bytes = masks_bytes(&masks(&mut random)).to_vec();
+    let masks = masks(&mut random);
+    let mut bytes = masks_bytes(&masks).to_vec();
     // Some nights break off anywhere in their last records.
     let broken_off = if random.one_in(3) { random.index(700) } else { 0 };
     let begins_late = random.one_in(3);
+    let begins_with_leaks = random.one_in(2);
     let mut night = Night::after(0, random);
+    if begins_with_leaks {
+        bytes.extend(night.leaks(&masks));
+    }
     if begins_late {
         bytes.extend(night.travel());
     }
@@ -42,6 +48,19 @@ impl Night {
         let chances = Chances::drawn(&mut random);
         let last = Record::quiet(n.into()).bytes();
         Night { random, chances, world: World::default(), cycle: n.into(), last, damaged: 0 }
+    }
+
+    /// Nothing but majors of an idle hall. Leaks last for two of them, so that jets fail.
+    fn leaks(&mut self, masks: &Masks) -> Vec<u8> {
+        let mut feed = Vec::new();
+        let strings = masks.map(|masks| telling_leaks(union(masks), &mut self.random));
+        for turn in 0..4 {
+            self.world.leak(strings.map(|leaks| leaks[turn]));
+            feed.extend(self.good(self.cycle + 25));
+            feed.extend(self.good(self.cycle + 25));
+        }
+        self.world.leak([0; 4]);
+        feed
     }
 
     /// Goes on in long jumps to just before the wire cycle wraps.

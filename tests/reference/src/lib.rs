@@ -19,6 +19,7 @@ pub mod writer;
 pub mod dispatch;
 pub mod foreign;
 pub mod generate;
+pub mod leak_cases;
 pub mod process;
 pub mod random;
 pub mod request;

@@ -2,8 +2,18 @@
 //! break, requests, temperatures and quantities. And maps for it.
 
 use crate::hall::Masks;
+use crate::jet::bit;
 use crate::random::Random;
 use crate::record::{Major, Record};
+
+/// Which words of a jet leak, fuel then oxidizer.
+const NEITHER: [bool; 2] = [false, false];
+const FUEL: [bool; 2] = [true, false];
+const OXIDIZER: [bool; 2] = [false, true];
+const BOTH: [bool; 2] = [true, true];
+
+/// How many styles the masks of a string are drawn in.
+const STYLES: u64 = 9;
 
 /// What a night is like, in the hall and on the line. Each number n means "once in n", 0 never.
 #[derive(Clone, Debug)]
@@ -88,14 +98,16 @@ impl World {
         record
     }
 
+    /// These jets leak, and no others.
+    pub fn leak(&mut self, jets: [u32; 4]) {
+        for (string, leaking) in self.strings.iter_mut().zip(jets) {
+            string.leaking = leaking;
+        }
+    }
+
     fn fill(&self, major: &mut Major, chances: &Chances, random: &mut Random) {
         for (words, string) in major.strings.iter_mut().zip(&self.strings) {
-            for (jet, temperatures) in words.temperatures.iter_mut().enumerate() {
-                *temperatures = [(); 2].map(|_| warm(random));
-                if (string.leaking >> jet) % 2 == 1 {
-                    temperatures[random.index(2)] = random.pick(&[0, 1, 32, 62, 63]);
-                }
-            }
+            words.temperatures = temperatures(string.leaking, random);
             if random.one_in(chances.requests) {
                 let both = random.jet() & random.word();
                 words.inhibit = both | random.jet() | random.jet();
@@ -123,8 +135,31 @@ impl StringWorld {
     }
 }
 
+/// Leaks that tell whether each mapped jet is tested and no other: of jets in no mask, of the lowest mapped
+/// one, of the highest, of a few.
+pub fn telling_leaks(mapped: u32, random: &mut Random) -> [u32; 4] {
+    let others = !mapped & random.word();
+    let jets: Vec<u32> = (0..32).map(|jet| 1 << jet).filter(|jet| mapped & jet != 0).collect();
+    let (Some(lowest), Some(highest)) = (jets.first(), jets.last()) else {
+        return [others, 0, 0, 0];
+    };
+    let few = (0..4).fold(0, |few, _| few | random.pick(&jets));
+    [others, *lowest, *highest, few]
+}
+
+/// Temperatures by which these jets leak: all by the fuel word, by the oxidizer word, by both, or each by one.
+pub fn temperatures(leaking: u32, random: &mut Random) -> [[u16; 2]; 32] {
+    let ways = random.pick(&[&[FUEL][..], &[OXIDIZER], &[BOTH], &[FUEL, OXIDIZER]]);
+    let mut temperatures = [[0; 2]; 32];
+    for (jet, words) in temperatures.iter_mut().enumerate() {
+        let cold = if bit(leaking, jet) { random.pick(ways) } else { NEITHER };
+        *words = cold.map(|cold| if cold { random.pick(&[0, 1, 32, 62, 63]) } else { warm(random) });
+    }
+    temperatures
+}
+
 /// A temperature that does not leak, often just so.
-pub fn warm(random: &mut Random) -> u16 {
+fn warm(random: &mut Random) -> u16 {
     let any = 64 + random.below(65_536 - 64) as u16;
     random.pick(&[64, 65, 127, 0x4000, 0x8000, 0xFFC0, any, any, any, any])
 }
@@ -137,26 +172,47 @@ pub fn quantities(random: &mut Random) -> [u16; 2] {
     random.pick(&[[one, any], [one, near], [near, one]])
 }
 
-/// Maps that are not refused: empty, full, even, or random with disjoint masks.
+/// The jets that the masks name.
+pub fn union(masks: [u32; 4]) -> u32 {
+    masks.iter().fold(0, |all, mask| all | mask)
+}
+
+/// Maps that are not refused, their strings alike or each in its own style.
 pub fn masks(random: &mut Random) -> Masks {
-    let style = random.below(8);
-    [(); 4].map(|_| match style {
-        0 => [0; 4],
-        1 => [0xFFFF_FFFF, 0, 0, 0],
-        2 => [0x0000_00FF, 0x0000_FF00, 0x00FF_0000, 0xFF00_0000],
-        3 => [0, 0, 0, random.jet()],
+    let alike = random.below(STYLES);
+    let mixed = random.one_in(8);
+    [(); 4].map(|_| {
+        let style = if mixed { random.below(STYLES) } else { alike };
+        string_masks(style, random)
+    })
+}
+
+/// Empty, full, even, one jet, eleven jets, or random with disjoint masks.
+fn string_masks(style: u64, random: &mut Random) -> [u32; 4] {
+    let mut masks = [0; 4];
+    match style {
+        0 => {}
+        1 => masks[0] = 0xFFFF_FFFF,
+        2 => masks = [0x0000_00FF, 0x0000_FF00, 0x00FF_0000, 0xFF00_0000],
+        3 => masks[3] = random.jet(),
+        4 => {
+            for (manifold, jets) in [3, 3, 3, 2].into_iter().enumerate() {
+                while masks[manifold].count_ones() < jets {
+                    masks[manifold] |= random.jet() & !union(masks);
+                }
+            }
+        }
         _ => {
             // Each jet goes to one of the manifolds, or to none.
-            let mut string = [0; 4];
             let places = random.pick(&[4, 5, 9]);
             for jet in 0..32 {
-                if let Some(mask) = string.get_mut(random.index(places)) {
+                if let Some(mask) = masks.get_mut(random.index(places)) {
                     *mask |= 1 << jet;
                 }
             }
-            string
         }
-    })
+    }
+    masks
 }
 
 /// Maps in which a bit stands in two masks of a string.

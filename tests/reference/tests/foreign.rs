@@ -6,6 +6,7 @@ use common::{driver_on, with, with_major, MAP};
 use reference::foreign::{script, Cases};
 use reference::hall::{Hall, TAKEN};
 use reference::jet::{bit, Jet};
+use reference::leak_cases::LeakCases;
 use reference::random::Random;
 use reference::record::Record;
 use reference::report::Report;
@@ -129,7 +130,7 @@ fn a_hall_is_read_as_it_was_written() {
 fn random_halls_meet_every_case() {
     let mut cases = Cases::default();
     for seed in 0..400 {
-        script(seed, &mut cases);
+        script(seed, &mut cases, &mut LeakCases::default());
     }
     let said = format!("{cases:?}").replace(['[', ']', '}'], ",");
     assert!(!said.contains(" 0,") && !said.contains(",0,"), "{said}");

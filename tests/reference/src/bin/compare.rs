@@ -4,6 +4,7 @@
 use reference::feed::{masks_bytes, run, MASKS_LENGTH};
 use reference::foreign::{self, Cases};
 use reference::generate::input;
+use reference::leak_cases::LeakCases;
 use reference::process::{cut, run_file, run_pieces};
 use reference::random::Random;
 use reference::report::REPORT_LENGTH;
@@ -15,9 +16,14 @@ use std::process::ExitCode;
 use std::time::{Duration, Instant};
 
 const LIMIT: Duration = Duration::from_secs(30);
+const FEEDS: u64 = 320;
+const BYTES: u64 = 20_000_000;
+const HALLS: u64 = 20_000;
 const CALL_INPUTS: u64 = 500;
 const NOISES: u64 = 24;
 const HALLS_AT_ONCE: u64 = 250;
+/// How often each case of leaks must be met, in the feeds and in the halls, unless fewer are asked for.
+const LEAST_MET: u64 = 25;
 
 fn main() -> ExitCode {
     let mut arguments = std::env::args().skip(1);
@@ -29,18 +35,20 @@ fn main() -> ExitCode {
     };
     let begin = Instant::now();
     let mut score = Score::default();
-    let tally = feeds(&watch, number, bytes, &mut score);
+    let (tally, leaks_of_feeds) = feeds(&watch, number, bytes, &mut score);
     let bad_inputs = bad_inputs(&watch, &mut score);
     let answers = scripts(&calls, &mut score);
-    let cases = foreign_halls(&calls, halls, &mut score);
+    let (cases, leaks_of_halls) = foreign_halls(&calls, halls, &mut score);
     let seconds = begin.elapsed().as_secs_f64();
+    print!("leaks of feeds, by the fuel word, by the oxidizer word, by both:\n{leaks_of_feeds}");
+    print!("leaks of halls:\n{leaks_of_halls}");
     println!("{tally:?}; {bad_inputs} inputs of noise or bad masks; {answers}; {cases:?}; {seconds:.1} s");
     score.end()
 }
 
 /// How many feeds, how many bytes of them in all, and how many foreign halls.
 fn amounts(mut options: impl Iterator<Item = String>) -> Option<(u64, u64, u64)> {
-    let (mut feeds, mut bytes, mut halls) = (320, 20_000_000, 20_000);
+    let (mut feeds, mut bytes, mut halls) = (FEEDS, BYTES, HALLS);
     while let Some(name) = options.next() {
         let place = match name.as_str() {
             "--feeds" => &mut feeds,
@@ -54,15 +62,16 @@ fn amounts(mut options: impl Iterator<Item = String>) -> Option<(u64, u64, u64)>
 }
 
 /// Seeded nights, each whole from a file or a pipe, every third also in pieces.
-fn feeds(watch: &str, number: u64, bytes: u64, score: &mut Score) -> Tally {
-    let mut tally = Tally::default();
-    let share = (bytes / number) as usize + 1;
+fn feeds(watch: &str, number: u64, total: u64, score: &mut Score) -> (Tally, LeakCases) {
+    let (mut tally, mut leak_cases) = (Tally::default(), LeakCases::default());
+    let share = (total / number) as usize + 1;
     for seed in 0..number {
         // Short and long feeds, that come to the wanted total.
         let size = [share / 2 + 1, share / 2 + 1, share, 2 * share][(seed % 4) as usize];
         let (bytes, damaged) = input(seed, size);
         let reports = reports(&bytes);
         tally.add(bytes.len(), damaged, &reports);
+        leak_cases.add_feed(&bytes);
         let name = format!("feed of seed {seed}, size {size}");
         if seed % 3 == 0 {
             let pieces = cut(&bytes, &mut Random(!seed));
@@ -75,7 +84,10 @@ fn feeds(watch: &str, number: u64, bytes: u64, score: &mut Score) -> Tally {
         };
         score.check(&format!("{name}, whole"), same(output, "report", &reports));
     }
-    tally
+    if number >= FEEDS && total >= BYTES {
+        score.check("leaks of the feeds", leak_cases.each_met(LEAST_MET));
+    }
+    (tally, leak_cases)
 }
 
 /// Noise, empty input, short and refused masks.
@@ -126,12 +138,13 @@ fn scripts(calls: &str, score: &mut Score) -> String {
 
 /// Halls that no run reaches, many to an input. Where one differs, its input is tried hall by hall, to
 /// name it.
-fn foreign_halls(calls: &str, number: u64, score: &mut Score) -> Cases {
-    let mut cases = Cases::default();
+fn foreign_halls(calls: &str, number: u64, score: &mut Score) -> (Cases, LeakCases) {
+    let (mut cases, mut leak_cases) = (Cases::default(), LeakCases::default());
     let mut begin = 0;
     while begin < number {
         let end = number.min(begin + HALLS_AT_ONCE);
-        let scripts: Vec<Vec<u8>> = (begin..end).map(|seed| foreign::script(seed, &mut cases)).collect();
+        let script = |seed| foreign::script(seed, &mut cases, &mut leak_cases);
+        let scripts: Vec<Vec<u8>> = (begin..end).map(script).collect();
         let all = plays(calls, scripts.concat());
         let differs = all.is_err();
         score.check(&format!("halls of seeds {begin} to {end}"), all);
@@ -142,7 +155,10 @@ fn foreign_halls(calls: &str, number: u64, score: &mut Score) -> Cases {
         }
         begin = end;
     }
-    cases
+    if number >= HALLS {
+        score.check("leaks of the halls", leak_cases.each_met(LEAST_MET));
+    }
+    (cases, leak_cases)
 }
 
 fn plays(calls: &str, input: Vec<u8>) -> Result<(), String> {
