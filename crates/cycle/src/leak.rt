@@ -47,7 +47,7 @@ fn leak_walk(jets: u32, t: Temperatures) -> u32
     w
 }
 
-// The mapped jets that leak.
+// The mapped jets that leak. With none mapped the walk would find none too, but only after a copy of the words.
 pub(crate) fn leak_word(mapped: u32, t: Temperatures) -> u32
     ensures { λ r. ⌜ r ≡ bitAnd mapped (leakWord t) ⌝ }
 {
