@@ -7,7 +7,7 @@ import sys
 
 HERE = pathlib.Path(__file__).resolve().parent
 sys.path.append(str(HERE.parent / "tests/nights"))
-from records import ALL_OPEN, QUIET, STRINGS, map_bytes, record
+from records import ALL_OPEN, QUIET, STRINGS, map_bytes, record, word_of
 
 # Every string has eight jets on each of its four manifolds: 0 to 7, 8 to 15, 16 to 23, 24 to 31.
 HALL = [[0x000000FF, 0x0000FF00, 0x00FF0000, 0xFF000000]] * STRINGS
@@ -105,12 +105,29 @@ def old_records(with_old=True):
     return b"".join(feed)
 
 
+def below_zero():
+    """String 2, jet 21 leaks and its injector freezes, until manifold 2 is closed. Later, string 0, jet 4: the wire of its fuel transducer
+    breaks and reads FFFF, though no gas flows."""
+    feed = [map_bytes(HALL)]
+    begins, closed, breaks = 40, 140, 180
+    oxidizer = {50: 71, 75: -9, 100: -88, 125: -131, 150: -74, 175: 12, 200: 96, 225: 170, 250: 230, 275: 270}
+    for cycle in range(1, 276):
+        valves = ALL_OPEN if cycle < closed else ALL_OPEN - only(2)
+        temps = {(2, 21): (300, word_of(oxidizer.get(cycle, 300)))}
+        if breaks <= cycle:
+            temps[(0, 4)] = (0xFFFF, 300)
+        blown_off = 9 * max(0, min(cycle, closed) - begins) // 25
+        feed.append(record(cycle, strings={2: (0, 0, 0, valves)}, temps=temps, banks={2: (500, 500 - blown_off)}))
+    return b"".join(feed)
+
+
 NIGHTS = {
     "1-stuck-jet": stuck_jet,
     "2-hand-closed-valve": hand_closed_valve,
     "3-cable-pull": cable_pull,
     "4-path-fault": path_fault,
     "5-old-records": old_records,
+    "6-below-zero": below_zero,
 }
 
 

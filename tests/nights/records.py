@@ -11,6 +11,11 @@ NO_REQUESTS = (0, 0)
 HALF_FULL = (500, 500)
 
 
+def word_of(number):
+    """The word that carries a number from -32,768 to 32,767: two's complement."""
+    return int.from_bytes(struct.pack(">h", number), "big")
+
+
 def map_bytes(masks):
     """The sixteen masks, string by string."""
     return b"".join(struct.pack(">I", mask) for string in masks for mask in string)

@@ -5,7 +5,7 @@ String 0 has four jets on manifold 0 and four on manifold 1; string 1 has one je
 """
 import sys
 
-from records import map_bytes, record
+from records import map_bytes, record, word_of
 
 MASKS = [[0x0000000F, 0x000000F0, 0, 0], [0, 0, 0, 0x80000000], [0] * 4, [0] * 4]
 
@@ -21,7 +21,8 @@ def night():
         if cycle in (100, 125, 150):
             strings[0] = (0, 0, 0x20, 15)  # the driver of jet 5 stays on: failed at 125, manifold 1 to be closed at 150
         if cycle in (150, 175, 200):
-            temps[(1, 31)] = (63, 500)  # jet 31 of string 1 leaks: failed at 175, manifold 3 to be closed at 200
+            # jet 31 of string 1 leaks, and its injector falls below zero: failed at 175, manifold 3 to be closed at 200
+            temps[(1, 31)] = ({150: 63, 175: word_of(-1), 200: word_of(-32768)}[cycle], 500)
         if 70 <= cycle < 80:
             path = 1  # the data path of string 0 fails and recovers
         if cycle == 225:

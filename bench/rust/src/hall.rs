@@ -6,9 +6,12 @@ const STRINGS: usize = 4;
 const MANIFOLDS: usize = 4;
 const MODULES: usize = 3;
 const MAJOR_EVERY: u32 = 25;
-const LEAK_BELOW: u16 = 64;
+/// A temperature word up to this, as a signed number, shows a leak.
+const LEAKS_UP_TO: i16 = 63;
 const MOST_APART: u16 = 16;
 const REPORT_LENGTH: usize = 34;
+/// As many temperature words as the compiler tests at once.
+const LANES: usize = 8;
 
 const TAKEN: u8 = 0;
 const STALE: u8 = 1;
@@ -232,24 +235,29 @@ impl JetString {
         self.good = self.standing;
     }
 
-    /// The jets of which a temperature word shows a leak, where any jet is mapped.
+    /// The jets of which a temperature word shows a leak, where any jet is mapped. All 32 are tested, mapped or not,
+    /// which costs less than a walk over eleven mapped ones.
     fn leaking(&self, record: &MajorRecord, s: usize) -> u32 {
         if self.mapped == 0 {
             return 0;
         }
         let from = TEMPERATURES + TEMPERATURES_LENGTH * s;
         let (low, high) = record[from..from + TEMPERATURES_LENGTH].split_at(TEMPERATURES_LENGTH / 2);
-        u32::from(half_leaking(low)) | u32::from(half_leaking(high)) << 16
+        let lanes = half_good(low).into_iter().zip(half_good(high));
+        !lanes.fold(u32::MAX, |good, (low, high)| good & (u32::from(low) | u32::from(high) << 16))
     }
 }
 
-/// Sixteen jets, mapped or not: the result is as wide as a word, so that the compiler tests eight words at once,
-/// which costs less than a walk over eleven mapped jets.
-fn half_leaking(temperatures: &[u8]) -> u16 {
-    temperatures.chunks_exact(2).enumerate().fold(0, |leaking, (i, word)| {
-        let word = u16::from_be_bytes(word.try_into().expect("two bytes each"));
-        // Below 64, a power of two, asked so that no byte need be swapped.
-        let leaks = word & !(LEAK_BELOW - 1) == 0;
-        leaking | if leaks { 1 << (i / 2) } else { 0 }
-    })
+/// Sixteen jets, in lanes as wide as a word, so that the compiler tests eight words at once. Each lane takes every
+/// eighth word, and clears the jet that one shows leaking: to keep the good ones costs less than to gather the others.
+fn half_good(temperatures: &[u8]) -> [u16; LANES] {
+    let mut lanes = [u16::MAX; LANES];
+    for (i, words) in temperatures.chunks_exact(2 * LANES).enumerate() {
+        for (l, (lane, word)) in lanes.iter_mut().zip(words.chunks_exact(2)).enumerate() {
+            let jet = (LANES * i + l) / 2;
+            let leaks = i16::from_be_bytes(word.try_into().expect("two bytes each")) <= LEAKS_UP_TO;
+            *lane &= if leaks { !(1 << jet) } else { u16::MAX };
+        }
+    }
+    lanes
 }

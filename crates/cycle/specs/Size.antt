@@ -37,9 +37,9 @@ wireSpan = 65536
 abbrev pub staleFrom : ℕ
 staleFrom = 32768
 
--- step 6: a temperature word below 64 leaks
-abbrev pub leakBelow : ℕ
-leakBelow = 64
+-- 02, order 3: a temperature word leaks if, as a signed number, it is at most 63
+abbrev pub leakMost : ℕ
+leakMost = 63
 
 -- out of balance: quantities that differ by more than 16 tenths
 abbrev pub mostApart : ℕ

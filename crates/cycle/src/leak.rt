@@ -4,7 +4,8 @@ ghost use lib.Bits.{bitAnd};
 ghost use Rattle.cycle.specs.Leak.{cold};
 ghost use Rattle.cycle.specs.Words.{leakWord};
 use crate::size::ALL_JETS;
-use crate::size::LEAK_BELOW;
+use crate::size::BELOW_ZERO_FROM;
+use crate::size::LEAK_MOST;
 use crate::size::TEMPERATURES;
 use crate::values::Temperatures;
 
@@ -12,7 +13,7 @@ use crate::values::Temperatures;
 fn cold(t: u16) -> bool
     ensures { λ r. ⌜ r ≡ cold t ⌝ }
 {
-    t < LEAK_BELOW
+    t <= LEAK_MOST || BELOW_ZERO_FROM <= t
 }
 
 // The jets that leak, of a string whose jets are all mapped: word after word, which the compiler takes several at a time.

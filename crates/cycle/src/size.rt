@@ -27,8 +27,11 @@ pub const MAJOR_EVERY: u32 = 25;
 // The full cycle number goes up to this.
 pub const LAST_COUNT: u32 = 4294967295;
 
-// A jet leaks below this temperature word.
-pub const LEAK_BELOW: u16 = 64;
+// A temperature word leaks that is at most this as a signed number.
+pub const LEAK_MOST: u16 = 63;
+
+// From this one on a word is below zero as a signed number.
+pub const BELOW_ZERO_FROM: u16 = 32768;
 
 // A module is in balance up to this difference, in tenths of a percent.
 pub const MOST_APART: u16 = 16;

@@ -11,5 +11,6 @@ pub mod NumbersInBytes
 pub mod Tables
 pub mod Told
 pub mod HeardValues
+pub mod BadHeard
 pub mod Carried
 pub mod Padded

@@ -10,4 +10,5 @@ pub mod ReportPlaces
 pub mod BalanceBits
 pub mod ReportsTell
 pub mod CloseFirst
+pub mod BadTaken
 pub mod ReliedOn

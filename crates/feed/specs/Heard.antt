@@ -1,12 +1,17 @@
 -- What a taken record says of one jet and of one module, read off its bytes: 01, "The feed", place by place. The numbers are written as
 -- document 01 writes or adds them up. Lists are the newest first. Assumes nothing.
-use mathlib.Core.Bool.{cond}
+use mathlib.Core.Path.{_≡_}
+use mathlib.Core.Bool.{true, false, cond}
 use mathlib.Core.List.{List, [], _∷_}
+use mathlib.Core.Logic.{_⊎_}
 use Prim.Native.Nat.{ℕ, _+_, _*_}
 use lib.Dec.{eqb}
+use lib.IntN.{pos}
 use lib.ListN.{getD}
+use lib.Signed.{_≤ℤ_}
 use Rattle.bits.specs.Bit.{bit}
 use Rattle.cycle.specs.Jets.{JetRecord, historyBy, newestOf}
+use Rattle.cycle.specs.Leak.{signed}
 use Rattle.cycle.specs.Banks.{noBank, weighed}
 use Rattle.cycle.specs.declared.banks.Bank.{Bank}
 use Rattle.feed.specs.Bytes.{two, four}
@@ -19,6 +24,11 @@ pub record Heard : Type 0 where
 -- the cycle number reached, "0 when fresh"
 abbrev pub reachedBy : List Heard → ℕ
 reachedBy ts = newestOf (λ (t : Heard). t .n) ts
+
+-- each of the records is so
+abbrev pub Each : (Heard → Type 0) → List Heard → Type 0
+Each P [] = Unit {0}
+Each P (t ∷ ts) = P t × Each P ts
 
 -- a number of a major record, told by its mark 52 4A; a minor one has no temperatures and requests: they stand as 0, and only major
 -- cycles look at them
@@ -41,6 +51,14 @@ jetHeard s i j t = record {
   fuel = inMajor (t .bytes) (two (t .bytes) (57 + 128 * s + 4 * j));
   oxidizer = inMajor (t .bytes) (two (t .bytes) (59 + 128 * s + 4 * j));
 }
+
+-- Step 6 for jet j of string s, by a major record's bytes r: "A jet is bad if it is not commanded and one of two holds: its driver is on,
+-- or it leaks"; 02, order 3: "a jet leaks if either word, as a signed number, is at most 63"
+abbrev pub BadSaid : ℕ → ℕ → List ℕ → Type 0
+BadSaid s j r =
+    (bit j (four r (5 + 13 * s)) ≡ false)
+    × ((bit j (four r (13 + 13 * s)) ≡ true)
+    ⊎ ((signed (two r (57 + 128 * s + 4 * j)) ≤ℤ pos 63) ⊎ (signed (two r (59 + 128 * s + 4 * j)) ≤ℤ pos 63)))
 
 -- what the records taken say of the jet
 abbrev pub jetHistory : ℕ → ℕ → ℕ → List Heard → List JetRecord

@@ -19,6 +19,7 @@ use Rattle.feed.specs.Report.{headOf, stringBytes, stringsBytes, balanceOf, les
 use Rattle.feed.specs.Call.{startedOver, called, call}
 use Rattle.promises.specs.Instance.{warmWords}
 use Rattle.promises.specs.NightHolds.{Night, EachHolds, outcomes, beforeRefusals, afterRefusals, calls, cycles}
+use Rattle.promises.specs.NightsOfLeaks.{temperatureNights, frozenNights}
 use Rattle.promises.specs.NightsOfJets.{jetNights}
 use Rattle.promises.specs.NightsOfRequests.{requestNights}
 use Rattle.promises.specs.NightsOfManifolds.{manifoldNights}
@@ -40,7 +41,15 @@ computed = tt
 
 nights-hold-starred : EachHolds starredNights
 unfolding computed starredNights
-nights-hold-starred = (refl, (refl, (refl, (refl, (refl, (refl, (refl, (refl, (refl, tt)))))))))
+nights-hold-starred = (refl, (refl, (refl, (refl, (refl, (refl, (refl, (refl, tt))))))))
+
+nights-hold-of-temperatures : EachHolds temperatureNights
+unfolding computed temperatureNights
+nights-hold-of-temperatures = (refl, (refl, (refl, (refl, (refl, tt)))))
+
+nights-hold-frozen : EachHolds frozenNights
+unfolding computed frozenNights
+nights-hold-frozen = (refl, tt)
 
 nights-hold-of-jets : EachHolds jetNights
 unfolding computed jetNights
@@ -70,7 +79,9 @@ pub nights-hold : EachHolds nights
 unfolding nights
 nights-hold =
     both-hold starredNights _ nights-hold-starred
+    (both-hold temperatureNights _ nights-hold-of-temperatures
     (both-hold jetNights _ nights-hold-of-jets
     (both-hold requestNights _ nights-hold-of-requests
     (both-hold manifoldNights _ nights-hold-of-manifolds
-    (both-hold pathNights lostValveNights nights-hold-of-paths nights-hold-of-lost-valves))))
+    (both-hold pathNights _ nights-hold-of-paths
+    (both-hold lostValveNights frozenNights nights-hold-of-lost-valves nights-hold-frozen))))))

@@ -7,12 +7,12 @@ use mathlib.Core.Path.{_≡_, sym, _∙_}
 use mathlib.Core.Bool.{true, false, _&&_, _||_}
 use mathlib.Core.List.{List, [], _∷_, _++_}
 use mathlib.Core.Logic.{_↔_}
-use Prim.Native.Nat.{ℕ, _+_, _*_, _/_, _<_, _≤_}
+use Prim.Native.Nat.{ℕ, _+_, _*_, _/_, _%_, _<_, _≤_}
 use lib.ListN.{length, getD, take, drop}
 use Rattle.bits.specs.Bit.{bit, any}
 use Rattle.cycle.specs.Size.{stringCount, manifoldCount}
 use Rattle.cycle.specs.Answers.{isTaken, writesReport}
-use Rattle.cycle.specs.Jets.{JetRecord, reached, run, cycle, asksAt}
+use Rattle.cycle.specs.Jets.{JetRecord, isBad, reached, run, cycle, asksAt}
 use Rattle.cycle.specs.Words.{manifolds}
 use Rattle.cycle.specs.Records.{Record, minor}
 use Rattle.cycle.specs.Hall.{sampleOf, stringOf, stepped}
@@ -33,7 +33,7 @@ use Rattle.cycle.proofs.Turns as turns
 use Rattle.cycle.proofs.TurnsTaken as turning
 use Rattle.cycle.proofs.UnmappedAlike as alike
 use Rattle.feed.specs.Bytes.{four}
-use Rattle.feed.specs.Heard.{Heard, jetHeard}
+use Rattle.feed.specs.Heard.{Heard, Each, jetHeard, BadSaid}
 use Rattle.feed.specs.Settled.{recordIn, valuesIn}
 use Rattle.feed.specs.Answered.{Condition, Leaves, Read, Starts}
 use Rattle.feed.specs.Call.{holds, holding, Result, startedOver, call, runs}
@@ -59,6 +59,7 @@ use Rattle.feed.proofs.Cutting.CutAnywhere as cutting
 use Rattle.feed.proofs.Cutting.Finishing as finishing
 use Rattle.feed.proofs.Cutting.Pieces as inPieces
 use Rattle.feed.proofs.Reports.CloseFirst as close
+use Rattle.feed.proofs.Reports.BadTaken as bad
 use Rattle.feed.proofs.Calls.Batches.{batch-continues}
 use Rattle.writer.specs.RecordBytes.{bytesOf}
 use Rattle.writer.specs.Write.{Wrote, wrote, write}
@@ -162,6 +163,12 @@ module _ (masks : List Masks) (words : FitMap masks) (accepted : refused stringC
   pub reports-tell : (c : Made) (cs : List Made) → writesReport (answerOf masks c cs) ≡ true
       → Tells masks (answerOf masks c cs) (takenRecords masks (c ∷ cs)) (reportIn masks c cs)
   reports-tell = reports.reports-tell masks words accepted
+
+  -- 02, order 3: "demand 3's 'bad' follows". In each record taken at a multiple of 25 a jet is bad if and only if, by the record's bytes,
+  -- it is not commanded and either its driver is on or one of its temperature words, as a signed number, is at most 63.
+  pub bad-said : (s i j : ℕ) (cs : List Made)
+      → Each (λ t. t .n % 25 ≡ 0 → (isBad (jetHeard s i j t) ≡ true) ↔ BadSaid s j (t .bytes)) (takenRecords masks cs)
+  bad-said = bad.bad-taken masks words accepted
 
   -- Demand 3, close, for manifold i of string s
   module _ (s i : ℕ) (string : s < 4) (manifold : i < 4) where

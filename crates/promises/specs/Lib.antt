@@ -2,6 +2,7 @@ pub mod Outcomes
 pub mod NightRecords
 pub mod NightHolds
 pub mod NightBytes
+pub mod NightsOfLeaks
 pub mod NightsOfJets
 pub mod NightsOfRequests
 pub mod NightsOfManifolds

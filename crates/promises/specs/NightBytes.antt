@@ -86,20 +86,25 @@ commonPart wire path first second =
 abbrev pub requestBytes : Said → List ℕ
 requestBytes x = inFour (x .requests .inhibit) ++ inFour (x .requests .reenable)
 
--- "512 bytes of injector temperatures", the requests, "for each module fuel then oxidizer, 2 bytes each": all words 64, all quantities 0
-abbrev pub majorPart : Said → Said → List ℕ
-majorPart first second = warmWords 256 ++ requestBytes first ++ requestBytes second ++ replicate 16 0x00 ++ replicate 12 0x00
+-- "512 bytes of injector temperatures", as given; the requests, "for each module fuel then oxidizer, 2 bytes each": all quantities 0
+abbrev pub majorPart : List ℕ → Said → Said → List ℕ
+majorPart temperatures first second =
+    temperatures ++ requestBytes first ++ requestBytes second ++ replicate 16 0x00 ++ replicate 12 0x00
 
 -- "sum, 2 bytes: all earlier bytes of the record, mark included"
 abbrev pub withSum : List ℕ → List ℕ
 withSum l = l ++ inTwo (sumOf l)
 
--- the record of the cycle n, which is below 65,536 and so the wire cycle, of the right kind
-abbrev pub recordBytes : ℕ → ℕ → Said → Said → List ℕ
-recordBytes n path first second =
+-- the record of the cycle n, which is below 65,536 and so the wire cycle, of the right kind; with these temperatures, where it is major
+abbrev pub recordBytesAt : List ℕ → ℕ → ℕ → Said → Said → List ℕ
+recordBytesAt temperatures n path first second =
     withSum
-    (cond (isMajor n) (0x52 ∷ 0x4A ∷ commonPart n path first second ++ majorPart first second)
+    (cond (isMajor n) (0x52 ∷ 0x4A ∷ commonPart n path first second ++ majorPart temperatures first second)
     (0x52 ∷ 0x4D ∷ commonPart n path first second))
+
+-- all words 64
+abbrev pub recordBytes : ℕ → ℕ → Said → Said → List ℕ
+recordBytes n path first second = recordBytesAt (warmWords 256) n path first second
 
 -- ---- a record with the report that it must get
 

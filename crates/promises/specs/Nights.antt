@@ -1,16 +1,16 @@
--- 01, "Nights to try": those marked *, each in the paper's words and from fresh through every cycle; and the single list of all nights.
--- Assumes nothing.
+-- 01, "Nights to try": those marked * (but for the temperatures', which are in NightsOfLeaks), each in the paper's words and from fresh
+-- through every cycle; and the single list of all nights. Assumes nothing.
 use mathlib.Core.Bool.{cond}
 use mathlib.Core.List.{List, [], _∷_, _++_, map}
 use Prim.Native.Nat.{ℕ}
 use lib.Dec.{ltb}
 use lib.ListN.{replicate}
 use Rattle.cycle.specs.Records.{minor}
-use Rattle.cycle.specs.declared.values.Temperatures.{Temperatures}
 use Rattle.cycle.specs.declared.values.Quantities.{Quantities}
 use Rattle.promises.specs.NightRecords.{nightMap, sampleWith, quietSample, quietTemperatures, quietQuantities}
 use Rattle.promises.specs.NightRecords.{minorWith, recordWith, recordOfSample, atMajors, keeping}
 use Rattle.promises.specs.NightHolds.{Exchange, Night, stepping, feeding, reportWith, reportOfString, since, cycles}
+use Rattle.promises.specs.NightsOfLeaks.{temperatureNights, frozenNights}
 use Rattle.promises.specs.NightsOfJets.{jetNights}
 use Rattle.promises.specs.NightsOfRequests.{requestNights}
 use Rattle.promises.specs.NightsOfManifolds.{manifoldNights}
@@ -74,18 +74,6 @@ valveCloses =
     ∷ valvesOpen 5 0x00000000 0x0F 0x00000004
     ∷ [])
 
--- "Temperature 63 leaks, 64 does not." Fuel of jet 0 and oxidizer of jet 1 are at 63 and every other word at 64; at 25 and 50, so that
--- jets 0 and 1 are failed from 50 on
-abbrev pub coldTemperatures : Temperatures
-coldTemperatures = record { words = 63 ∷ 64 ∷ 64 ∷ 63 ∷ replicate 60 64 }
-
-abbrev pub coldJets : ℕ → Exchange
-coldJets n =
-    record { given = recordWith n quietSample coldTemperatures quietQuantities; report = reportOfString 0 n (since 50 0x00000003 n) 0x00 }
-
-abbrev pub leaksAt63 : Night
-leaksAt63 = stepping nightMap (map coldJets (cycles 1 50))
-
 -- a quiet minor record with this wire cycle, and what is reported: the answer and n
 abbrev pub wired : ℕ → ℕ → ℕ → Exchange
 wired wire answer n = record { given = minor (minorWith wire quietSample); report = reportOfString answer n 0x00000000 0x00 }
@@ -128,9 +116,11 @@ abbrev pub quantitiesBalance : Night
 quantitiesBalance = stepping nightMap (map weighing (cycles 1 50))
 
 unfoldable pub starredNights : List Night
-starredNights =
-    firstRecord ∷ failsOff ∷ failsOffAfterGap ∷ failsOn ∷ failsOnAfterGap ∷ valveCloses ∷ leaksAt63 ∷ wireWraps ∷ quantitiesBalance ∷ []
+starredNights = firstRecord ∷ failsOff ∷ failsOffAfterGap ∷ failsOn ∷ failsOnAfterGap ∷ valveCloses ∷ wireWraps ∷ quantitiesBalance ∷ []
 
--- the single list: those that 01 marks, and those that pin each step where no law does
+-- the single list: those that 01 marks, as 02 amends them; those that pin each step where no law does; and the one of 02, order 3, from
+-- bytes to the close bit
 unfoldable pub nights : List Night
-nights = starredNights ++ (jetNights ++ (requestNights ++ (manifoldNights ++ (pathNights ++ lostValveNights))))
+nights =
+    starredNights
+    ++ (temperatureNights ++ (jetNights ++ (requestNights ++ (manifoldNights ++ (pathNights ++ (lostValveNights ++ frozenNights))))))

@@ -33,7 +33,8 @@ pub fn bit(word: u32, number: usize) -> bool {
     (word >> number) % 2 == 1
 }
 
-/// A word below 64 leaks: mask 1111111111000000 gives zero.
+/// "A jet leaks if either word, as a signed number, is at most 63" (document 02, order 3). A word is 16 bits,
+/// two's complement.
 pub fn leaks(temperatures: [u16; 2]) -> bool {
-    temperatures.iter().any(|word| word & 0b1111_1111_1100_0000 == 0)
+    temperatures.iter().any(|word| *word as i16 <= 63)
 }

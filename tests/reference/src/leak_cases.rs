@@ -7,6 +7,7 @@ use crate::jet::{bit, leaks, Jet};
 use crate::jet_string::JetString;
 use crate::reader::look;
 use crate::record::{Record, StringMajor};
+use crate::temperature_cases::{MistakenHalls, TemperatureCases};
 use std::{fmt, iter};
 
 #[derive(Clone, Debug, Default)]
@@ -14,6 +15,7 @@ pub struct LeakCases {
     strings: [u64; 5],
     /// Case by case: every leak by the fuel word alone, by the oxidizer word alone, by both words.
     met: [[u64; 3]; CASES.len()],
+    temperatures: TemperatureCases,
 }
 
 /// Jets of a string, by their bits.
@@ -26,11 +28,15 @@ struct Leaky {
     good: u32,
 }
 
-/// Of which mapped and idle jets of a string an output shows a leak: their own, one taken for theirs.
+/// Of which mapped and idle jets of a string an output shows a leak.
 #[derive(Clone, Copy)]
 struct Shows {
+    /// Their own.
     own: u32,
+    /// Another's, taken for theirs.
     mistaken: u32,
+    /// One that is not there, seen in this record alone.
+    at_once: u32,
 }
 
 type Named = (&'static str, fn(&Leaky) -> bool);
@@ -90,7 +96,9 @@ impl LeakCases {
     /// What the program reads for a night. Its reports show the leaks by which jets fail.
     pub fn add_feed(&mut self, input: &[u8]) {
         let (masks, feed) = input.split_first_chunk().expect("masks");
-        let mut hall = Hall::fresh(&masks_from(masks));
+        let masks = masks_from(masks);
+        let mut hall = Hall::fresh(&masks);
+        let mut mistaken = MistakenHalls::fresh(&masks);
         let mut held = Vec::new();
         for byte in feed {
             held.push(*byte);
@@ -99,13 +107,14 @@ impl LeakCases {
                 if let (TAKEN, Some(before)) = (hall.settle(&record), before) {
                     self.add(&record, &hall, shown_by_report(before, &record, &hall));
                 }
+                mistaken.settle(&record, &hall, &mut self.temperatures);
             }
         }
     }
 
     /// A record that a call took, and the hall after it. The output shows all of that, and so each bad jet.
     pub fn add_call(&mut self, record: &Record, after: &Hall) {
-        self.add(record, after, [Shows { own: u32::MAX, mistaken: u32::MAX }; 4]);
+        self.add(record, after, [Shows { own: u32::MAX, mistaken: u32::MAX, at_once: u32::MAX }; 4]);
     }
 
     fn add(&mut self, record: &Record, after: &Hall, shows: [Shows; 4]) {
@@ -124,6 +133,9 @@ impl LeakCases {
                 good: idle & shows[s].mistaken,
             };
             self.add_string(string, &jets);
+            let temperatures = &major.strings[s].temperatures;
+            self.temperatures.add_leaking(temperatures, jets.shown);
+            self.temperatures.add_good(temperatures, idle & shows[s].at_once);
             for (met, _) in self.met.iter_mut().zip(CASES).filter(|(_, (_, is_met))| is_met(&jets)) {
                 met[0] += u64::from(oxidizer == 0);
                 met[1] += u64::from(fuel == 0);
@@ -157,7 +169,7 @@ impl LeakCases {
 
     fn named(&self) -> impl Iterator<Item = (&str, &[u64])> {
         let cases = CASES.iter().zip(&self.met).map(|((name, _), met)| (*name, &met[..]));
-        iter::once((STRINGS, &self.strings[..])).chain(cases)
+        iter::once((STRINGS, &self.strings[..])).chain(cases).chain(self.temperatures.named())
     }
 }
 
@@ -169,7 +181,8 @@ fn leaking(major: &StringMajor) -> [u32; 2] {
     [word(|[fuel, _]| leaks([fuel, 64])), word(|[_, oxidizer]| leaks([64, oxidizer]))]
 }
 
-/// A report shows the leaks of failed jets that would not have failed had none leaked in this record.
+/// A report shows the leaks of failed jets that would not have failed had none leaked in this record. A leak that
+/// is not there would only show in the second major cycle, which `MistakenHalls` are for.
 fn shown_by_report(mut before: Hall, record: &Record, after: &Hall) -> [Shows; 4] {
     let mut warm = record.clone();
     for string in warm.major.iter_mut().flat_map(|major| &mut major.strings) {
@@ -179,6 +192,7 @@ fn shown_by_report(mut before: Hall, record: &Record, after: &Hall) -> [Shows; 4
     [0, 1, 2, 3].map(|s| Shows {
         own: after.strings[s].word(|jet| jet.failed && !before.strings[s].jets[jet.number].failed),
         mistaken: after.strings[s].word(|jet| !jet.failed && !jet.re_enabled),
+        at_once: 0,
     })
 }
 

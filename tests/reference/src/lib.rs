@@ -1,4 +1,4 @@
-//! The monitor of document 01 in plain Rust, jet by jet, in that document's words
+//! The monitor of document 01, as document 02 amends it, in plain Rust, jet by jet, in those documents' words
 //! and order. It is slow and obvious on purpose: it is what other builds are compared to.
 //!
 //! Lowest part first: `jet`, `jet_string`, `record`, `hall`, `reader`, `report`, `monitor`,
@@ -28,6 +28,7 @@ pub mod request_input;
 pub mod score;
 pub mod script;
 pub mod tally;
+pub mod temperature_cases;
 pub mod world;
 
 pub use monitor::Monitor;

@@ -65,7 +65,7 @@ const CASES: [Named; 14] = [
     ("outbox of 0, one short, exact, one longer, longer, 1,024, else good", 12, outbox),
     ("a minor's outbox for a major, else good", 1, minors_outbox_for_major),
     ("written: wire cycle a multiple of 25 or not", 4, wire_cycle),
-    ("written: temperatures below 64, to 32,767, above", 3, temperatures),
+    ("written: temperature words of 0 to 63, to 32,767, to 65,535", 3, temperatures),
     ("written: jets named neither way, one way, both ways", 3, named),
     ("written: a major's bytes come to 65,535 at most, to more", 2, size_of_sum),
 ];
@@ -191,8 +191,8 @@ fn wire_cycle(request: &Request) -> Vec<usize> {
 fn temperatures(request: &Request) -> Vec<usize> {
     let strings = written_strings(request);
     let words: Vec<u16> = strings.iter().flat_map(|string| string.temperatures).flatten().collect();
-    let sizes = [0..=63, 64..=32_767, 32_768..=65_535];
-    (0..3).filter(|size| words.iter().any(|word| sizes[*size].contains(word))).collect()
+    let ranges = [0..=63, 64..=32_767, 32_768..=65_535];
+    (0..3).filter(|range| words.iter().any(|word| ranges[*range].contains(word))).collect()
 }
 
 fn named(request: &Request) -> Vec<usize> {

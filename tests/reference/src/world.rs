@@ -148,20 +148,33 @@ pub fn telling_leaks(mapped: u32, random: &mut Random) -> [u32; 4] {
 }
 
 /// Temperatures by which these jets leak: all by the fuel word, by the oxidizer word, by both, or each by one.
+/// The two words of a jet are often the same.
 pub fn temperatures(leaking: u32, random: &mut Random) -> [[u16; 2]; 32] {
     let ways = random.pick(&[&[FUEL][..], &[OXIDIZER], &[BOTH], &[FUEL, OXIDIZER]]);
     let mut temperatures = [[0; 2]; 32];
     for (jet, words) in temperatures.iter_mut().enumerate() {
-        let cold = if bit(leaking, jet) { random.pick(ways) } else { NEITHER };
-        *words = cold.map(|cold| if cold { random.pick(&[0, 1, 32, 62, 63]) } else { warm(random) });
+        let is_cold = if bit(leaking, jet) { random.pick(ways) } else { NEITHER };
+        *words = is_cold.map(|is_cold| if is_cold { cold(random) } else { warm(random) });
+        if is_cold[0] == is_cold[1] && random.one_in(2) {
+            words[1] = words[0];
+        }
     }
     temperatures
 }
 
-/// A temperature that does not leak, often just so.
+/// A word that leaks: often an end of one of the two ranges or the word beside it, or else any of either.
+fn cold(random: &mut Random) -> u16 {
+    let from_zero = random.below(64) as u16;
+    let below_zero = 32_768 + random.below(32_768) as u16;
+    let any = random.pick(&[from_zero, below_zero]);
+    random.pick(&[0, 63, 32_768, 65_535, 0, 63, 32_768, 65_535, 1, 62, 32_769, 65_534, any, any, any])
+}
+
+/// A word that does not leak: often an end of the range or the word beside it, or else a single bit or any.
 fn warm(random: &mut Random) -> u16 {
-    let any = 64 + random.below(65_536 - 64) as u16;
-    random.pick(&[64, 65, 127, 0x4000, 0x8000, 0xFFC0, any, any, any, any])
+    let single_bit = 64 << random.below(9);
+    let any = 64 + random.below(32_768 - 64) as u16;
+    random.pick(&[64, 32_767, 64, 32_767, 65, 32_766, single_bit, any, any, any])
 }
 
 /// Quantities often close to the border of 16 tenths, either way round.

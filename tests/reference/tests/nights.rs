@@ -1,4 +1,4 @@
-//! The nights to try of document 01, in its order.
+//! The nights to try of document 01, in its order, as order 3 of document 02 amends them.
 
 mod common;
 
@@ -77,13 +77,27 @@ fn valve_that_closes_and_opens_leaves_the_jet_that_failed_off() {
 }
 
 #[test]
-fn temperature_63_leaks_and_64_does_not() {
-    for (fuel, oxidizer, fail) in [(63, 64, 1), (64, 63, 1), (64, 64, 0), (0, 0x8000, 1), (0x8000, 0xFFFF, 0)]
-    {
+fn temperatures_63_and_65535_and_32768_leak_and_64_and_32767_do_not() {
+    for (word, fail) in [(63, 1), (64, 0), (65_535, 1), (32_768, 1), (32_767, 0)] {
+        for words in [[word, 64], [64, word], [word, word]] {
+            let mut post = Post::over(MAP);
+            let record = |n| with_major(n, 0, |major| major.temperatures[0] = words);
+            post.take(&record(25));
+            assert_eq!(post.take(&record(50)).fail[0], fail, "{words:?}");
+        }
+    }
+}
+
+/// The night of the driver, with a temperature below zero in its place.
+#[test]
+fn temperature_65535_at_25_50_75_fails_at_50_and_closes_at_75() {
+    for words in [[65_535, 64], [64, 65_535], [65_535, 65_535]] {
         let mut post = Post::over(MAP);
-        let cold = |n| with_major(n, 0, |major| major.temperatures[0] = [fuel, oxidizer]);
-        post.take(&cold(25));
-        assert_eq!(post.take(&cold(50)).fail[0], fail, "{fuel} and {oxidizer}");
+        for (n, fail, close) in [(25, 0, 0), (50, 2, 0), (75, 2, 1)] {
+            post.quiet_until(n - 1);
+            let report = post.take(&with_major(n, 0, |major| major.temperatures[1] = words));
+            assert_eq!((report.fail[0], report.close[0]), (fail, close), "{words:?}, cycle {n}");
+        }
     }
 }
 

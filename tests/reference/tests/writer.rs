@@ -102,6 +102,16 @@ fn each_value_stands_in_its_place() {
 }
 
 #[test]
+fn temperature_words_of_each_range_are_written_as_they_are() {
+    for word in [0, 63, 64, 32_767, 32_768, 65_535_u16] {
+        let record = with_major(25, 3, |major| major.temperatures[31] = [word, !word]);
+        let (answer, outbox) = written(&record, 615);
+        assert_eq!((answer, &outbox[565..567]), (WRITTEN, &word.to_be_bytes()[..]));
+        assert_eq!(outbox[567..569], (!word).to_be_bytes());
+    }
+}
+
+#[test]
 fn a_sum_above_65535_loses_what_is_beyond() {
     let mut record = Record::quiet(25);
     for string in &mut record.major.as_mut().expect("a major record").strings {
