@@ -121,6 +121,26 @@ def below_zero():
     return b"".join(feed)
 
 
+def both_ways():
+    """Somebody's script asks for an inhibit and a re-enable of one jet. At 75 the controllers send the cycle again without that, at 150
+    they do not. String 0, jet 9 and string 1, jet 20: their drivers stay on."""
+    feed = [map_bytes(HALL)]
+
+    def at(cycle, requests={}):
+        drivers = {0: only(9) if 20 <= cycle else 0, 1: only(20) if 90 <= cycle else 0}
+        return record(cycle, strings={s: (0, 0, on, ALL_OPEN) for s, on in drivers.items()}, requests=requests)
+
+    for cycle in range(1, 251):
+        if cycle == 75:
+            feed.append(at(75, {2: (only(3), only(3))}))
+            feed.append(at(75, {2: (only(3), 0)}))
+        elif cycle == 150:
+            feed.append(at(150, {3: (only(7) | only(8), only(8))}))
+        else:
+            feed.append(at(cycle))
+    return b"".join(feed)
+
+
 NIGHTS = {
     "1-stuck-jet": stuck_jet,
     "2-hand-closed-valve": hand_closed_valve,
@@ -128,6 +148,7 @@ NIGHTS = {
     "4-path-fault": path_fault,
     "5-old-records": old_records,
     "6-below-zero": below_zero,
+    "7-both-ways": both_ways,
 }
 
 

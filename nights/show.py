@@ -3,7 +3,7 @@
 import struct
 import sys
 
-ANSWERS = {0: "taken", 1: "stale", 2: "repeat", 3: "count ended", 4: "wrong kind"}
+ANSWERS = {0: "taken", 1: "stale", 2: "repeat", 3: "count ended", 4: "wrong kind", 7: "a jet named both ways"}
 
 
 def bits(word):

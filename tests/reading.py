@@ -7,7 +7,7 @@ import pathlib
 import re
 
 root = pathlib.Path(__file__).resolve().parent.parent
-FRONT = ("crates/promises/proofs/Promises.antt", "crates/promises/proofs/Keeper.antt")
+FRONT = tuple(f"crates/promises/proofs/{name}.antt" for name in ("Promises", "Writer", "Keeper"))
 CRATES = ("writer", "feed", "cycle", "bits")
 
 

@@ -1,6 +1,6 @@
 #!/usr/bin/env python3
 """calls-nights.py > crates/calls/stdin: the nights to try of document 01 that are run and not proved, as scripts for the program `calls`,
-and three that hand in whole halls which no run reaches.
+those of a jet named both ways (document 02, order 4) that a call alone can show, and three that hand in whole halls which no run reaches.
 
 A script is its kind (0: a start over the hall's masks, with its n; 1: the hall as it stands), a hall (420 bytes, crates/calls/src/layout.rt
 has its places), the claimed held count (2), the store (615), the number of calls (2), and for each call the piece's length (2), the
@@ -23,6 +23,11 @@ REFUSED = map_bytes([[0x0000000F, 0x00000008, 0, 0], [0] * 4, [0] * 4, [0] * 4])
 def minor(wire, commanded=0):
     """String 0 has these jets commanded, and nothing else is on."""
     return records.minor(wire, strings={0: (commanded, 0, 0, ALL_OPEN)})
+
+
+def asking(wire, jets=0x00000001, path=0):
+    """A major record that names these jets of string 0 both ways."""
+    return records.major(wire, path, requests={0: (jets, jets)})
 
 
 def outbox(length):
@@ -83,6 +88,30 @@ nights = [
     script([(minor(1, 1), 34), (minor(2, 1), 34), (minor(3, 1), 34)], masks=REFUSED),
     # An outbox longer than 34 bytes keeps those after the 34th.
     script([(minor(1), 40), (minor(2), 255)]),
+    # A jet named both ways gets 7, also under a path fault; jets in no mask do not count. An outbox of 33 bytes gets 5 before, and at
+    # other cycles the same record is of the wrong kind, a repeat or stale.
+    script(
+        [
+            (asking(25), 33),
+            (asking(24), 34),
+            (asking(25), 34),
+            (asking(25, path=0x0F), 40),
+            (asking(25, 0xFFFFFFF0), 34),
+            (asking(25), 34),
+            (asking(24), 34),
+        ]
+    ),
+    # Behind the end of the count it gets 3.
+    script([(asking(4), 34)], n=LAST),
+    # A record is refused whole: jet 0, which is bad for the third time, sets no close bit, and nothing of the hall or its banks changes.
+    # A clean record for the same cycle, handed in behind it, sets the close bit and the inhibit and weighs the bank.
+    script(
+        [
+            (records.major(50, strings={0: (0, 0, 1, 0)}, requests={0: (2, 2)}, banks={0: (500, 400)}), 34),
+            (records.major(50, strings={0: (0, 0, 1, ALL_OPEN)}, requests={0: (2, 0)}, banks={0: (500, 400)}), 34),
+        ],
+        whole=hall(n=49, strings={0: string(standing(1), standing(1), on=(1, 1), recheck=1)}),
+    ),
     # A hall handed in whose manifold 0 is remembered closed and has a saved set beyond its mask: all of it leaves the fail word, and the
     # set stays. Jets 16 and 17 are in no mask: the report does not show them, the hall does.
     script([(minor(1), 34), (minor(2), 34)], whole=hall(strings={0: string(standing(0x0003001F, 0xFFFFFFFE, (0x00010013, 0, 0, 0)))})),

@@ -28,6 +28,7 @@ def night():
         if cycle == 225:
             requests[0] = (0, 0x04)  # jet 2 is re-enabled
             banks[1] = (517, 500)  # module 1 out of balance
+            out.append(record(cycle, path, strings, temps, {0: (0x04, 0x04)}, banks))  # first named both ways: refused, and sent again
         whole = record(cycle, path, strings, temps, requests, banks)
         if cycle == 30:
             out.append(whole[:31])  # a cable is pulled in the middle of a record

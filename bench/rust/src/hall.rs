@@ -18,6 +18,7 @@ const STALE: u8 = 1;
 const REPEAT: u8 = 2;
 const COUNT_ENDED: u8 = 3;
 const WRONG_KIND: u8 = 4;
+const BOTH_WAYS: u8 = 7;
 
 pub struct Hall {
     n: u32,
@@ -76,9 +77,15 @@ impl Hall {
 
     pub fn major(&mut self, record: &MajorRecord) -> u8 {
         let minor: &MinorRecord = record.first_chunk().expect("a major record is longer");
+        // Requests are rare.
+        let asks = record[REQUESTS..QUANTITIES] != [0; QUANTITIES - REQUESTS];
         match self.judge(minor, true) {
+            Ok(_) if asks && self.named_both_ways(record) => return BOTH_WAYS,
             Ok(next) => self.step(minor, next),
             Err(answer) => return answer,
+        }
+        if asks {
+            self.ask(record);
         }
         for (s, string) in self.strings.iter_mut().enumerate() {
             string.major(record, s);
@@ -101,6 +108,23 @@ impl Hall {
         }
         let missed_major = d > 1 && self.n / MAJOR_EVERY < (n - 1) / MAJOR_EVERY;
         Ok(Next { n, gap: d > 1, missed_major })
+    }
+
+    /// Is a mapped jet of any string, its path failed or not, to be inhibited and re-enabled?
+    #[cold]
+    fn named_both_ways(&self, record: &MajorRecord) -> bool {
+        self.strings.iter().enumerate().any(|(s, string)| {
+            let (inhibit, reenable) = string.requests(record, s);
+            inhibit & reenable != 0
+        })
+    }
+
+    /// Step 5.
+    #[cold]
+    fn ask(&mut self, record: &MajorRecord) {
+        for (s, string) in self.strings.iter_mut().enumerate() {
+            string.ask(record, s);
+        }
     }
 
     fn step(&mut self, record: &MinorRecord, next: Next) {
@@ -210,18 +234,28 @@ impl JetString {
         standing.valves = valves;
     }
 
-    /// Steps 5 to 8.
+    /// The mapped jets that a record asks to inhibit, and those that it asks to re-enable.
+    fn requests(&self, record: &MajorRecord, s: usize) -> (u32, u32) {
+        let at = REQUESTS + REQUESTS_LENGTH * s;
+        (self.mapped & word(record, at), self.mapped & word(record, at + 4))
+    }
+
+    /// Step 5. No jet is named both ways.
+    fn ask(&mut self, record: &MajorRecord, s: usize) {
+        if self.lost {
+            return;
+        }
+        let (inhibit, reenable) = self.requests(record, s);
+        self.inhibit = (self.inhibit | inhibit) & !reenable;
+        self.reenable = (self.reenable | reenable) & !inhibit;
+        self.standing.fail = (self.standing.fail | inhibit) & !reenable;
+    }
+
+    /// Steps 6 to 8.
     fn major(&mut self, record: &MajorRecord, s: usize) {
         if self.lost {
             return;
         }
-        let inhibit = self.mapped & word(record, REQUESTS + REQUESTS_LENGTH * s);
-        let reenable = self.mapped & word(record, REQUESTS + REQUESTS_LENGTH * s + 4);
-        let (inhibit, reenable) = (inhibit & !reenable, reenable & !inhibit);
-        self.inhibit = (self.inhibit | inhibit) & !reenable;
-        self.reenable = (self.reenable | reenable) & !inhibit;
-        let fail = (self.standing.fail | inhibit) & !reenable;
-
         let sample = SAMPLES + SAMPLE_LENGTH * s;
         let (commanded, driver) = (word(record, sample), word(record, sample + 8));
         let bad = self.mapped & !commanded & (driver | self.leaking(record, s));
@@ -231,7 +265,7 @@ impl JetString {
         }
         self.recheck = bad & self.on & !self.reenable;
         self.on = bad;
-        self.standing.fail = fail | self.recheck;
+        self.standing.fail |= self.recheck;
         self.good = self.standing;
     }
 

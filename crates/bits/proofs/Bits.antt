@@ -117,7 +117,7 @@ bit-ext (suc k) a b ha hb e =
     omega arith
 
 -- and so are two words of any width
-below-power : (n : ℕ) → n < 2 ^ n
+pub below-power : (n : ℕ) → n < 2 ^ n
 below-power zero = omega arith
 below-power (suc n) = omega (arith, below-power n, pow-lt {i = n} {j = suc n} (omega arith))
 

@@ -4,15 +4,16 @@ use mathlib.Core.Bool.{Bool, true, false, not, _&&_, _||_}
 use mathlib.Core.Logic.{⊎-elim}
 use Prim.Native.Nat.{ℕ, zero, suc, _^_, _<_}
 use native.Mathlib.Nat.{not-suc-le-zero, le-of-suc-le-suc, lt-of-le-of-lt, lt-trans, le-refl, le-of-eq, eq-or-lt-of-le}
+use native.Mathlib.Decide.{decLt}
 use native.Mathlib.Omega.{arith}
 use lib.Dec.{eqb}
 use lib.Pow.{pow-pos, pow-lt}
 use lib.Bits.{bitAnd, or-lt, and-le-l}
 use borrow.Author.Tests.{eq-eqb, ne-eqb, lt-ltb}
 use Rattle.bits.specs.Bit.{wordBits, bit, meets, plusBit, withBit, pack, any}
-use Rattle.bits.proofs.Yes.{not-both, and-true, and-false, or-false, or-cases, or-left, or-right}
+use Rattle.bits.proofs.Yes.{not-both, and-left, and-right, and-both, and-true, and-false, or-false, or-cases, or-left, or-right}
 use Rattle.bits.proofs.Yes.{same-yes}
-use Rattle.bits.proofs.Bits.{bit-and, bit-or, bit-none, bit-past, bit-one, bit-ext}
+use Rattle.bits.proofs.Bits.{bit-and, bit-or, bit-none, bit-past, bit-one, bit-ext, below-power}
 
 -- ---- one bit more
 
@@ -108,6 +109,21 @@ unfolding meets
 meets-is n a b h =
     some-bit n (bitAnd a b) (lt-of-le-of-lt (and-le-l a b) h)
     ∙ any-same n (λ j. bit j (bitAnd a b)) (λ j. bit j a && bit j b) (λ j l. bit-and j a b)
+
+-- and so for words of any width
+pub meets-found : (a b : ℕ) → meets a b ≡ true → (j : ℕ) × (bit j a ≡ true) × (bit j b ≡ true)
+meets-found a b e =
+    let x = any-found a (λ j. bit j a && bit j b) (sym (meets-is a a b (below-power a)) ∙ e) in
+    (x .0, and-left (bit (x .0) a) (bit (x .0) b) (x .2), and-right (bit (x .0) a) (bit (x .0) b) (x .2))
+
+pub meets-at : (a b j : ℕ) → bit j a ≡ true → bit j b ≡ true → meets a b ≡ true
+meets-at a b j p q =
+    meets-is a a b (below-power a)
+    ∙ any-at a (λ i. bit i a && bit i b) j (by (decLt j a)) (and-both (bit j a) (bit j b) p q)
+  where
+    by : Dec (j < a) → j < a
+    by (yes l) = l
+    by (no f) = not-both (bit j a) p (bit-past a j a (below-power a) (omega arith))
 
 -- packing goes on by `with_bit`
 pub pack-next : (n w : ℕ) (f : ℕ → Bool) (b : Bool) → n < wordBits → w ≡ pack n f → b ≡ f n → withBit w n b ≡ pack (suc n) f

@@ -7,7 +7,7 @@ use Rattle.bits.proofs.Yes.{not-both}
 use Rattle.cycle.specs.Answers.{numberOf, isTaken}
 use Rattle.cycle.specs.declared.answer.Answer.{Answer}
 use Rattle.cycle.specs.declared.answer.Answer.the-variants.{Taken, Stale, Repeat, CountEnded, WrongKind, OutboxShort, MapRefused}
-use Rattle.cycle.specs.declared.answer.Answer.the-variants.{NothingSettled}
+use Rattle.cycle.specs.declared.answer.Answer.the-variants.{BothWays, NothingSettled}
 
 -- the monitor is stepped on 0 alone
 pub taken-only : (a : Answer) → isTaken a ≡ true → a ≡ Taken
@@ -18,6 +18,7 @@ taken-only CountEnded e = not-both false e refl
 taken-only WrongKind e = not-both false e refl
 taken-only OutboxShort e = not-both false e refl
 taken-only MapRefused e = not-both false e refl
+taken-only BothWays e = not-both false e refl
 taken-only NothingSettled e = not-both false e refl
 
 -- a number fits a byte
@@ -29,4 +30,5 @@ number-byte CountEnded = omega arith
 number-byte WrongKind = omega arith
 number-byte OutboxShort = omega arith
 number-byte MapRefused = omega arith
+number-byte BothWays = omega arith
 number-byte NothingSettled = omega arith

@@ -86,8 +86,7 @@ slots-else old r s l m = minor-on old r s ∙ rw (m, recovered-otherwise s l)
 
 requested-keeps : (i e : Bool) (s : JetState) → (requested i e s .on ≡ s .on) × (requested i e s .lost ≡ s .lost)
 unfolding requested
-requested-keeps true true s = (refl, refl)
-requested-keeps true false s = (refl, refl)
+requested-keeps true e s = (refl, refl)
 requested-keeps false true s = (refl, refl)
 requested-keeps false false s = (refl, refl)
 

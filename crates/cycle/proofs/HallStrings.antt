@@ -11,12 +11,11 @@ use Rattle.bits.proofs.Yes.{not-both}
 use Rattle.bits.proofs.Bits.{bit-none}
 use Rattle.cycle.specs.Size.{stringCount, manifoldCount, moduleCount}
 use Rattle.cycle.specs.Map.{masksOf, FitMap, refused}
-use Rattle.cycle.specs.Numbers.{judged}
 use Rattle.cycle.specs.Words.{fresh, freshStanding, minorCycle, majorCycle}
 use Rattle.cycle.specs.Banks.{noBank, noQuantities, weighed, weighedAll}
-use Rattle.cycle.specs.Records.{Record, minor, major, majorKind, common}
+use Rattle.cycle.specs.Records.{Record, minor, major}
 use Rattle.cycle.specs.Hall.{pastString, sampleOf, noTemperatures, noRequests, freshHall, minorStrings, majorStrings}
-use Rattle.cycle.specs.Hall.{taken, steppedBy, stepped}
+use Rattle.cycle.specs.Hall.{taken, verdictOn, steppedBy, stepped}
 use Rattle.cycle.specs.Hall.{stringOf}
 use Rattle.cycle.specs.Proper.{ProperStanding, ProperHall}
 use Rattle.cycle.specs.declared.banks.Bank.{Bank}
@@ -122,7 +121,7 @@ taken-proper (major r) next h p =
 
 pub stepped-proper : (r : Record) (h : Hall) → ProperHall h → ProperHall ((stepped r h) .hall)
 unfolding stepped
-stepped-proper r h p = by (judged (h .n) ((common r) .wire) (majorKind r))
+stepped-proper r h p = by (verdictOn (h .n) (h .masks) r)
   where
     by : (v : Verdict) → ProperHall ((steppedBy v r h) .hall)
     by (Takes next) = taken-proper r next h p

@@ -1,5 +1,5 @@
--- The answers: every record is judged in exactly one way, each answer exactly under its stated condition, which is arithmetic on d, n and
--- the kind; and what a taken record leads to. Assumes nothing.
+-- The answers by number, 1 to 4: every record is judged in exactly one way, each answer exactly under its stated condition, which is
+-- arithmetic on d, n and the kind; and what a record that its number lets be taken leads to. Assumes nothing.
 use mathlib.Core.Path.{_≡_, refl, sym, ap, _∙_}
 use mathlib.Core.Bool.{Bool, true, false, not}
 use Prim.Native.Nat.{ℕ, _+_, _-_, _%_, _<_, _≤_}
@@ -9,8 +9,6 @@ use lib.Dec.{eqb, ltb}
 use borrow.Author.Tests.{lt-ltb, le-ltb}
 use Rattle.cycle.specs.Size.{lastCount, staleFrom}
 use Rattle.cycle.specs.Numbers.{distance, isMajor, missedCycle, missedMajor, judged}
-use Rattle.cycle.specs.Answers.{isTaken}
-use Rattle.cycle.specs.declared.answer.Answer.{Answer}
 use Rattle.cycle.specs.declared.number.Next.{Next}
 use Rattle.cycle.specs.declared.number.Verdict.{Verdict}
 use Rattle.cycle.specs.declared.number.Verdict.the-variants.{Takes, Refuses}
@@ -72,7 +70,7 @@ module _ (n wire : ℕ) (major : Bool) where
           let h : staleFrom ≤ d = omega arith in
           rw (judged-stale n wire major h) (stale h)
 
--- what a taken record leads to
+-- what a record that its number lets be taken leads to
 pub record Follows (n wire : ℕ) (major : Bool) (next : Next) : Type 0 where
   pub number : next .n ≡ n + apart n wire
   pub above : n < next .n
@@ -104,17 +102,3 @@ takes-follows n wire major next e = by (judged n wire major) (judged-exactly n w
         let w : Follows n wire major this =
         record { number = refl; above = omega arith; most = c; kind = k; gap = gap-same (distance n wire) a; missed = refl } in
         rw s at w
-
--- a refusal is one of the table's
-pub refuses-untaken : (n wire : ℕ) (major : Bool) (a : Answer) → judged n wire major ≡ Refuses a → isTaken a ≡ false
-refuses-untaken n wire major a e = by (judged n wire major) (judged-exactly n wire major) e
-  where
-    other : (b : Answer) → isTaken b ≡ false → _≡_ {A = Verdict} (Refuses b) (Refuses a) → isTaken a ≡ false
-    other b f q = let s : b ≡ a = cc in rw s at f
-
-    by : (v : Verdict) → Judgement n wire major v → v ≡ Refuses a → isTaken a ≡ false
-    by v (repeats x) q = other Repeat refl q
-    by v (stale x) q = other Stale refl q
-    by v (ends x y z) q = other CountEnded refl q
-    by v (wrong x y z k) q = other WrongKind refl q
-    by v (follows x y z k) q = let o : _≡_ {A = ℕ} 0 1 = cc in absurd (omega arith)

@@ -5,6 +5,8 @@ pub mod Each
 pub mod Quiet
 pub mod Loops
 pub mod Maps
+pub mod BothWays
+pub mod Verdicts
 pub mod Leaks
 pub mod CutWords
 pub mod MappedLeaks

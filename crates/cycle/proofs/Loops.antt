@@ -13,7 +13,9 @@ use Rattle.bits.specs.Bit.{meets, any}
 use Rattle.cycle.specs.Size.{manifoldCount}
 use Rattle.cycle.specs.Each.{each}
 use Rattle.cycle.specs.Map.{masksOf, mapped, overlap, refused}
+use Rattle.cycle.specs.Hall.{noRequests, stringBothWays, bothWays}
 use Rattle.cycle.specs.declared.map.Masks.{Masks}
+use Rattle.cycle.specs.declared.values.Requests.{Requests}
 use Rattle.cycle.proofs.Each.{each-next}
 
 -- a place k below the end n: the next one is within it, nearer to it, and fits
@@ -56,3 +58,8 @@ pub refused-turn : (masks : List Masks) (s : ℕ) {found b : Bool} → found ≡
     → b ≡ overlap manifoldCount (masksOf masks s) → (found || b) ≡ refused (s + 1) masks
 unfolding refused any
 refused-turn masks s f q = rw (add-one, q, f)
+
+pub both-ways-turn : (masks : List Masks) (requests : List Requests) (s : ℕ) {found b : Bool} → found ≡ bothWays s masks requests
+    → b ≡ stringBothWays (masksOf masks s) (getD requests s noRequests) → (found || b) ≡ bothWays (s + 1) masks requests
+unfolding bothWays any
+both-ways-turn masks requests s f q = rw (add-one, q, f)

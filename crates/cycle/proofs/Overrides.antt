@@ -90,8 +90,7 @@ minor-minded old r s apart =
 
 requested-minded : (inhibit reenable : Bool) (s : JetState) → MindedJet s → MindedJet (requested inhibit reenable s)
 unfolding requested
-requested-minded true true s x = x
-requested-minded true false s x = record { inhibitFails = λ e. refl; reenableFree = λ e. sym e; apart = refl }
+requested-minded true reenable s x = record { inhibitFails = λ e. refl; reenableFree = λ e. sym e; apart = refl }
 requested-minded false true s x = record { inhibitFails = λ e. e; reenableFree = λ e. refl; apart = refl }
 requested-minded false false s x = x
 

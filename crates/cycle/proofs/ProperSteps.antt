@@ -8,17 +8,16 @@ use Rattle.bits.proofs.Yes.{not-both}
 use Rattle.cycle.specs.Size.{stringCount, jetCount, manifoldCount}
 use Rattle.cycle.specs.Answers.{isTaken}
 use Rattle.cycle.specs.Jets as jets
-use Rattle.cycle.specs.Numbers.{judged}
-use Rattle.cycle.specs.Records.{Record, majorKind, common}
+use Rattle.cycle.specs.Records.{Record, common}
 use Rattle.cycle.specs.Map.{masksOf, inMask}
-use Rattle.cycle.specs.Hall.{stringOf, steppedBy, stepped}
+use Rattle.cycle.specs.Hall.{stringOf, verdictOn, steppedBy, stepped}
 use Rattle.cycle.specs.Views.{jetOf, jetRecord}
 use Rattle.cycle.specs.Proper.{ProperHall}
 use Rattle.cycle.specs.declared.hall.Hall.{Hall}
 use Rattle.cycle.specs.declared.hall.Stepped.{Stepped}
 use Rattle.cycle.specs.declared.number.Verdict.{Verdict}
 use Rattle.cycle.specs.declared.number.Verdict.the-variants.{Takes, Refuses}
-use Rattle.cycle.proofs.Judgements.{takes-follows, refuses-untaken}
+use Rattle.cycle.proofs.Verdicts.{verdict-follows, verdict-untaken}
 use Rattle.cycle.proofs.HallAgrees.{jet-after, close-after, number-after}
 
 module _ (r : Record) (h : Hall) (p : ProperHall h) (s i : ℕ) (l : s < stringCount) (below : i < manifoldCount) where
@@ -38,27 +37,27 @@ module _ (r : Record) (h : Hall) (p : ProperHall h) (s i : ℕ) (l : s < stringC
 
   pub stepped-jet : isTaken ((stepped r h) .answer) ≡ true → (j : ℕ) → inMask (masksOf (h .masks) s) i j → JetSteps j (stepped r h)
   unfolding stepped
-  stepped-jet t j stands = by (judged (h .n) ((common r) .wire) (majorKind r)) refl t
+  stepped-jet t j stands = by (verdictOn (h .n) (h .masks) r) refl t
     where
-      by : (v : Verdict) → judged (h .n) ((common r) .wire) (majorKind r) ≡ v → isTaken ((steppedBy v r h) .answer) ≡ true
+      by : (v : Verdict) → verdictOn (h .n) (h .masks) r ≡ v → isTaken ((steppedBy v r h) .answer) ≡ true
           → JetSteps j (steppedBy v r h)
       by (Takes next) e u =
-          jet-after h p ((common r) .wire) next s l r (takes-follows (h .n) ((common r) .wire) (majorKind r) next e) i j below stands
+          jet-after h p ((common r) .wire) next s l r (verdict-follows (h .n) (h .masks) r next e) i j below stands
           ∙ ap (λ (n : ℕ). jets.cycle (h .n) (says n j) (jetOf i j (stringOf h s))) (sym (number-after r next h))
-      by (Refuses a) e u = not-both (isTaken a) u (refuses-untaken (h .n) ((common r) .wire) (majorKind r) a e)
+      by (Refuses a) e u = not-both (isTaken a) u (verdict-untaken (h .n) (h .masks) r a e)
 
   pub stepped-close : isTaken ((stepped r h) .answer) ≡ true → CloseSteps (stepped r h)
   unfolding stepped
-  stepped-close t = by (judged (h .n) ((common r) .wire) (majorKind r)) refl t
+  stepped-close t = by (verdictOn (h .n) (h .masks) r) refl t
     where
-      by : (v : Verdict) → judged (h .n) ((common r) .wire) (majorKind r) ≡ v → isTaken ((steppedBy v r h) .answer) ≡ true
+      by : (v : Verdict) → verdictOn (h .n) (h .masks) r ≡ v → isTaken ((steppedBy v r h) .answer) ≡ true
           → CloseSteps (steppedBy v r h)
       by (Takes next) e u =
-          close-after h p ((common r) .wire) next s l r (takes-follows (h .n) ((common r) .wire) (majorKind r) next e) i below
+          close-after h p ((common r) .wire) next s l r (verdict-follows (h .n) (h .masks) r next e) i below
           ∙ ap
           (λ (n : ℕ).
           bit i ((stringOf h s) .close)
           || any jetCount
           (λ j. bit j (getD (masksOf (h .masks) s) i 0) && jets.asksAt (h .n) (says n j) (jetOf i j (stringOf h s))))
           (sym (number-after r next h))
-      by (Refuses a) e u = not-both (isTaken a) u (refuses-untaken (h .n) ((common r) .wire) (majorKind r) a e)
+      by (Refuses a) e u = not-both (isTaken a) u (verdict-untaken (h .n) (h .masks) r a e)

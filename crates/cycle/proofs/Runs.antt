@@ -13,11 +13,10 @@ use Rattle.bits.proofs.Words.{any-none, any-same, any-or}
 use Rattle.cycle.specs.Size.{stringCount, jetCount, manifoldCount, moduleCount}
 use Rattle.cycle.specs.Answers.{isTaken}
 use Rattle.cycle.specs.Map.{masksOf, FitMap, refused}
-use Rattle.cycle.specs.Numbers.{judged}
 use Rattle.cycle.specs.Jets as jets
 use Rattle.cycle.specs.Banks.{noBank}
 use Rattle.cycle.specs.Records.{Record, minor, major, majorKind, common}
-use Rattle.cycle.specs.Hall.{freshHall, taken, steppedBy, stepped}
+use Rattle.cycle.specs.Hall.{freshHall, taken, verdictOn, steppedBy, stepped}
 use Rattle.cycle.specs.Hall.{stringOf}
 use Rattle.cycle.specs.Views.{jetOf, jetRecord}
 use Rattle.cycle.specs.Proper.{ProperHall}
@@ -31,7 +30,8 @@ use Rattle.cycle.specs.declared.number.Verdict.the-variants.{Takes, Refu
 use Rattle.cycle.specs.declared.string.StringState.{StringState}
 use Rattle.cycle.specs.declared.hall.Hall.{Hall}
 use Rattle.cycle.specs.declared.hall.Stepped.{Stepped}
-use Rattle.cycle.proofs.Judgements.{Follows, takes-follows, refuses-untaken}
+use Rattle.cycle.proofs.Judgements.{Follows}
+use Rattle.cycle.proofs.Verdicts.{verdict-follows, verdict-untaken}
 use Rattle.cycle.proofs.HallStrings.{fresh-string, fresh-proper, taken-proper}
 use Rattle.cycle.proofs.HallAgrees.{jet-after, close-after, close-fits-after, number-after, map-after, bank-after}
 
@@ -140,15 +140,15 @@ module _ (masks : List Masks) (h : Hall) (ts : List TakenRecord) (run : Run mask
 pub run-step : (masks : List Masks) (h : Hall) (ts : List TakenRecord) → Run masks h ts → (r : Record)
     → Run masks ((stepped r h) .hall) (grown (takes r h) (stepped r h) r ts)
 unfolding stepped
-run-step masks h ts run r = by (judged (h .n) ((common r) .wire) (majorKind r)) refl
+run-step masks h ts run r = by (verdictOn (h .n) (h .masks) r) refl
   where
-    by : (v : Verdict) → judged (h .n) ((common r) .wire) (majorKind r) ≡ v
+    by : (v : Verdict) → verdictOn (h .n) (h .masks) r ≡ v
         → Run masks ((steppedBy v r h) .hall) (grown (isTaken ((steppedBy v r h) .answer)) (steppedBy v r h) r ts)
     by (Takes next) e =
-        let f : Follows (h .n) ((common r) .wire) (majorKind r) next = takes-follows (h .n) ((common r) .wire) (majorKind r) next e in
+        let f : Follows (h .n) ((common r) .wire) (majorKind r) next = verdict-follows (h .n) (h .masks) r next e in
         subst (λ (n : ℕ). Run masks (taken r next h) (record { n = n; values = r } ∷ ts)) (sym (number-after r next h))
         (run-taken masks h ts run r next f (taken-proper r next h (run .proper)))
-    by (Refuses a) e = rw (refuses-untaken (h .n) ((common r) .wire) (majorKind r) a e) run
+    by (Refuses a) e = rw (verdict-untaken (h .n) (h .masks) r a e) run
 
 -- ---- any list of records
 

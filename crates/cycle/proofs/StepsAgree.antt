@@ -13,20 +13,17 @@ use Rattle.cycle.specs.Views.{jetOf}
 use Rattle.cycle.specs.declared.jet.JetState.{JetState}
 use Rattle.cycle.specs.declared.string.StringState.{StringState}
 
--- 5: what is carried out of requests named one way only, by a jet's two values
+-- 5: what is carried out of requests, by a jet's two values
 abbrev carriedOut : Bool → Bool → JetState → JetState
 carriedOut inhibit reenable s =
-    let inhibits : Bool = inhibit && not reenable in
-    let reenables : Bool = reenable && not inhibit in
     jets.withOver
-    (record { inhibit = (s .over .inhibit || inhibits) && not reenables; reenable = (s .over .reenable || reenables) && not inhibits })
-    (jets.withFail ((s .standing .fail || inhibits) && not reenables) s)
+    (record { inhibit = (s .over .inhibit && not reenable) || inhibit; reenable = (s .over .reenable || reenable) && not inhibit })
+    (jets.withFail ((s .standing .fail && not reenable) || inhibit) s)
 
 carried-out : (inhibit reenable : Bool) (s : JetState) → carriedOut inhibit reenable s ≡ jets.requested inhibit reenable s
 unfolding jets.requested
-carried-out true true s = simp (or-false, and-true)
-carried-out true false s = simp (or-true, and-false, and-true)
-carried-out false true s = simp (or-true, and-false, and-true)
+carried-out true reenable s = simp (or-true, and-false)
+carried-out false true s = simp (or-true, or-false, and-false, and-true)
 carried-out false false s = simp (or-false, and-true)
 
 module _ (i j : ℕ) where

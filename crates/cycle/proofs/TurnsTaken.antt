@@ -8,10 +8,10 @@ use Rattle.bits.proofs.Yes.{not-both}
 use Rattle.cycle.specs.Size.{manifoldCount}
 use Rattle.cycle.specs.Answers.{isTaken}
 use Rattle.cycle.specs.Map.{masksOf}
-use Rattle.cycle.specs.Numbers.{missedCycle, missedMajor, judged}
+use Rattle.cycle.specs.Numbers.{missedCycle, missedMajor}
 use Rattle.cycle.specs.Words.{recovered, gapped, offFailure, manifolds, minorSteps, minorCycle}
 use Rattle.cycle.specs.Records.{minor}
-use Rattle.cycle.specs.Hall.{sampleOf, stringOf, taken, steppedBy, stepped}
+use Rattle.cycle.specs.Hall.{sampleOf, stringOf, taken, verdictOn, steppedBy, stepped}
 use Rattle.cycle.specs.Turns.{FourTurns, Shaped, beforeTurns}
 use Rattle.cycle.specs.declared.hall.Hall.{Hall}
 use Rattle.cycle.specs.declared.number.Next.{Next}
@@ -19,7 +19,8 @@ use Rattle.cycle.specs.declared.number.Verdict.{Verdict}
 use Rattle.cycle.specs.declared.number.Verdict.the-variants.{Takes, Refuses}
 use Rattle.cycle.specs.declared.string.StringState.{StringState}
 use Rattle.cycle.specs.declared.values.Minor.{Minor}
-use Rattle.cycle.proofs.Judgements.{Follows, takes-follows, refuses-untaken}
+use Rattle.cycle.proofs.Judgements.{Follows}
+use Rattle.cycle.proofs.Verdicts.{verdict-follows, verdict-untaken}
 use Rattle.cycle.proofs.HallStrings.{minor-at}
 use Rattle.cycle.proofs.HallAgrees.{number-after}
 use Rattle.cycle.proofs.Turns.{four-turns}
@@ -66,11 +67,11 @@ module _ (h : Hall) (shaped : Shaped h) (r : Minor) (s : ℕ) (l : s < 4) (good 
   pub turns-taken : isTaken ((stepped (minor r) h) .answer) ≡ true
       → Turns ((stepped (minor r) h) .hall .n) (stringOf ((stepped (minor r) h) .hall) s)
   unfolding stepped
-  turns-taken t = by (judged (h .n) (r .wire) false) refl t
+  turns-taken t = by (verdictOn (h .n) (h .masks) (minor r)) refl t
     where
-      by : (v : Verdict) → judged (h .n) (r .wire) false ≡ v → isTaken ((steppedBy v (minor r) h) .answer) ≡ true
+      by : (v : Verdict) → verdictOn (h .n) (h .masks) (minor r) ≡ v → isTaken ((steppedBy v (minor r) h) .answer) ≡ true
           → Turns ((steppedBy v (minor r) h) .hall .n) (stringOf ((steppedBy v (minor r) h) .hall) s)
       by (Takes next) e u =
-          rw (number-after (minor r) next h, taken-string next (takes-follows (h .n) (r .wire) false next e))
+          rw (number-after (minor r) next h, taken-string next (verdict-follows (h .n) (h .masks) (minor r) next e))
           (four-turns (masksOf (h .masks) s) ((sampleOf r s) .valves) (beforeTurns h r (next .n) s) (before-long (next .n)))
-      by (Refuses a) e u = not-both (isTaken a) u (refuses-untaken (h .n) (r .wire) false a e)
+      by (Refuses a) e u = not-both (isTaken a) u (verdict-untaken (h .n) (h .masks) (minor r) a e)

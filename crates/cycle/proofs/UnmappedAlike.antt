@@ -5,16 +5,18 @@ use mathlib.Core.List.{List}
 use Prim.Native.Nat.{ℕ, _<_}
 use lib.ListN.{getD}
 use Rattle.bits.specs.Bit.{bit}
-use Rattle.bits.proofs.Yes.{not-both}
+use Rattle.bits.proofs.Yes.{not-both, same-yes}
 use Rattle.cycle.specs.Size.{stringCount, manifoldCount, moduleCount}
-use Rattle.cycle.specs.Map.{masksOf, mapped}
+use Rattle.cycle.specs.Map.{masksOf, mapped, inMask}
 use Rattle.cycle.specs.Numbers.{judged}
 use Rattle.cycle.specs.Jets.{JetRecord}
 use Rattle.cycle.specs.Leak.{leaks}
 use Rattle.cycle.specs.Banks.{weighedAll}
-use Rattle.cycle.specs.Records.{Record, minor, major, majorKind, common}
+use Rattle.cycle.specs.Records.{Record, minor, major, common}
 use Rattle.cycle.specs.Hall.{pastString, sampleOf, noTemperatures, noRequests, minorStrings, majorStrings, taken, steppedBy, stepped}
+use Rattle.cycle.specs.Hall.{recordBothWays, unlessBothWays, verdictOn}
 use Rattle.cycle.specs.Views.{jetSays, jetRecord}
+use Rattle.cycle.specs.BothWays.{NamedBothWays}
 use Rattle.cycle.specs.Unmapped.{Alike}
 use Rattle.cycle.specs.declared.answer.Answer.the-variants.{Taken}
 use Rattle.cycle.specs.declared.banks.Bank.{Bank}
@@ -29,6 +31,7 @@ use Rattle.cycle.specs.declared.values.Requests.{Requests}
 use Rattle.cycle.specs.declared.values.Major.{Major}
 use Rattle.cycle.specs.declared.values.Quantities.{Quantities}
 use Rattle.cycle.proofs.Maps.{mapped-found}
+use Rattle.cycle.proofs.BothWays.{names-exactly}
 use Rattle.cycle.proofs.Each.{each-same}
 use Rattle.cycle.proofs.UnmappedWords.{leak-same, AlikeString, minor-cycle-same, major-cycle-same}
 
@@ -105,11 +108,38 @@ taken-same h next (major a) (major b) alike =
     ∙ major-strings-same (h .masks) a b alike _)
     (alike .quantities)
 
+-- a jet that one record names both ways, a record that says the same of mapped jets names too
+named-alike : (masks : List Masks) (a b : Record)
+    → ((s i j : ℕ) → s < stringCount → i < manifoldCount → inMask (masksOf masks s) i j → jetRecord 0 s i j a ≡ jetRecord 0 s i j b)
+    → NamedBothWays masks a → NamedBothWays masks b
+named-alike masks a b same x =
+    let e = same (x .string) (x .manifold) (x .jet) (x .inHall) (x .inString) (x .stands) in
+    record {
+      string = x .string;
+      manifold = x .manifold;
+      jet = x .jet;
+      inHall = x .inHall;
+      inString = x .inString;
+      stands = x .stands;
+      inhibit = ap (λ (r : JetRecord). r .inhibit) (sym e) ∙ x .inhibit;
+      reenable = ap (λ (r : JetRecord). r .reenable) (sym e) ∙ x .reenable;
+    }
+
+verdict-same : (n : ℕ) (masks : List Masks) (a b : Record) → Alike masks a b → verdictOn n masks a ≡ verdictOn n masks b
+unfolding verdictOn
+verdict-same n masks a b alike =
+    ap₂ unlessBothWays
+    (same-yes (recordBothWays masks a) (recordBothWays masks b)
+    (λ e. names-exactly masks b .1 (named-alike masks a b (alike .jets) (names-exactly masks a .0 e)))
+    (λ e.
+    names-exactly masks a .1
+    (named-alike masks b a (λ s i j l k stands. sym (alike .jets s i j l k stands)) (names-exactly masks b .0 e))))
+    (ap₂ (λ (w : ℕ) (k : Bool). judged n w k) (alike .wire) (alike .kind))
+
 pub alike-step : (h : Hall) (a b : Record) → Alike (h .masks) a b → stepped a h ≡ stepped b h
 unfolding stepped
 alike-step h a b alike =
-    ap₂ (λ (w : ℕ) (k : Bool). steppedBy (judged (h .n) w k) a h) (alike .wire) (alike .kind)
-    ∙ by (judged (h .n) ((common b) .wire) (majorKind b))
+    ap (λ (v : Verdict). steppedBy v a h) (verdict-same (h .n) (h .masks) a b alike) ∙ by (verdictOn (h .n) (h .masks) b)
   where
     by : (v : Verdict) → steppedBy v a h ≡ steppedBy v b h
     by (Takes next) = ap (λ (x : Hall). record { answer = Taken; hall = x }) (taken-same h next a b alike)

@@ -9,10 +9,9 @@ use Rattle.bits.proofs.Yes.{not-yes}
 use Rattle.bits.proofs.Bits.{bit-none}
 use Rattle.cycle.specs.Size.{stringCount, manifoldCount}
 use Rattle.cycle.specs.Map.{masksOf, mapped}
-use Rattle.cycle.specs.Numbers.{judged}
 use Rattle.cycle.specs.Words.{fresh, freshStanding, pathLost, leakWord, minorSteps, majorSteps, minorCycle, majorCycle}
-use Rattle.cycle.specs.Records.{Record, minor, major, majorKind, common}
-use Rattle.cycle.specs.Hall.{freshHall, minorStrings, taken, steppedBy, stepped}
+use Rattle.cycle.specs.Records.{Record, minor, major}
+use Rattle.cycle.specs.Hall.{freshHall, minorStrings, taken, verdictOn, steppedBy, stepped}
 use Rattle.cycle.specs.Unmapped.{Unmapped, NoneStanding, NoneOf, UnmappedNone}
 use Rattle.cycle.specs.declared.hall.Hall.{Hall}
 use Rattle.cycle.specs.declared.map.Masks.{Masks}
@@ -100,7 +99,7 @@ taken-none (major r) next h p =
 
 pub stepped-none : (r : Record) (h : Hall) → AllNone h → AllNone ((stepped r h) .hall)
 unfolding stepped
-stepped-none r h p = by (judged (h .n) ((common r) .wire) (majorKind r))
+stepped-none r h p = by (verdictOn (h .n) (h .masks) r)
   where
     by : (v : Verdict) → AllNone ((steppedBy v r h) .hall)
     by (Takes next) = taken-none r next h p

@@ -141,21 +141,18 @@ module _ (m : ℕ) (masks : List ℕ) (j : ℕ) (free : (i : ℕ) → i < m → 
       → NoneOf j (requested inhibit reenable s)
   unfolding requested
   requested-none inhibit reenable e f s p =
-      let a : ℕ = without inhibit reenable in
-      let b : ℕ = without reenable inhibit in
-      let no-a = without-none j inhibit reenable e in
-      let no-b = without-none j reenable inhibit f in
       record {
         standing = record {
-          fail = without-none j (bitOr (s .standing .fail) a) b (or-none j (s .standing .fail) a (p .standing .fail) no-a);
+          fail = or-none j (without (s .standing .fail) reenable) inhibit
+              (without-none j (s .standing .fail) reenable (p .standing .fail)) e;
           saved = p .standing .saved;
         };
         good = p .good;
         off = p .off;
         on = p .on;
         over = (
-          without-none j (bitOr (s .over .inhibit) a) b (or-none j (s .over .inhibit) a (p .over .0) no-a),
-          without-none j (bitOr (s .over .reenable) b) a (or-none j (s .over .reenable) b (p .over .1) no-b),
+          or-none j (without (s .over .inhibit) reenable) inhibit (without-none j (s .over .inhibit) reenable (p .over .0)) e,
+          without-none j (bitOr (s .over .reenable) reenable) inhibit (or-none j (s .over .reenable) reenable (p .over .1) f),
         );
       }
 

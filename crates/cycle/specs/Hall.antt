@@ -4,15 +4,16 @@ use mathlib.Core.Bool.{Bool, false, cond}
 use mathlib.Core.List.{List, []}
 use Prim.Native.Nat.{ℕ}
 use lib.ListN.{getD, replicate}
-use Rattle.bits.specs.Bit.{bit}
+use lib.Bits.{bitAnd}
+use Rattle.bits.specs.Bit.{bit, meets, any}
 use Rattle.cycle.specs.Size.{stringCount, manifoldCount, moduleCount}
 use Rattle.cycle.specs.Each.{each}
-use Rattle.cycle.specs.Map.{noMasks, masksOf, refused}
+use Rattle.cycle.specs.Map.{noMasks, masksOf, mapped, refused}
 use Rattle.cycle.specs.Numbers.{judged}
 use Rattle.cycle.specs.Words.{noOff, noOn, fresh, minorCycle, majorCycle}
 use Rattle.cycle.specs.Banks.{noBank, weighedAll}
 use Rattle.cycle.specs.Records.{Record, minor, major, majorKind, common}
-use Rattle.cycle.specs.declared.answer.Answer.the-variants.{Taken, MapRefused}
+use Rattle.cycle.specs.declared.answer.Answer.the-variants.{Taken, MapRefused, BothWays}
 use Rattle.cycle.specs.declared.number.Next.{Next}
 use Rattle.cycle.specs.declared.number.Verdict.{Verdict}
 use Rattle.cycle.specs.declared.number.Verdict.the-variants.{Takes, Refuses}
@@ -106,10 +107,32 @@ unfoldable pub taken : Record → Next → Hall → Hall
 taken (minor r) next h = minorTaken r next h
 taken (major r) next h = majorTaken r (minorTaken (r .minor) next h)
 
+-- 02, order 4: is a jet of one string "named both ways", its inhibit and its re-enable bit set; "only mapped jets counted"
+abbrev pub stringBothWays : List ℕ → Requests → Bool
+stringBothWays masks q = meets (bitAnd (mapped manifoldCount masks) (q .inhibit)) (q .reenable)
+
+-- one of the lowest n strings; "strings with the path bit set counted too": the path byte is not looked at
+unfoldable pub bothWays : ℕ → List Masks → List Requests → Bool
+bothWays n masks requests = any n (λ s. stringBothWays (masksOf masks s) (getD requests s noRequests))
+
+-- a minor record has no requests
+abbrev pub recordBothWays : List Masks → Record → Bool
+recordBothWays masks (minor r) = false
+recordBothWays masks (major r) = bothWays stringCount masks (r .requests)
+
+-- "answer 7, tested after 4": only a record that its number lets be taken gets it
+unfoldable pub unlessBothWays : Bool → Verdict → Verdict
+unlessBothWays both (Takes next) = cond both (Refuses BothWays) (Takes next)
+unlessBothWays both (Refuses a) = Refuses a
+
+-- the verdict on a record at the cycle number n, over a map
+unfoldable pub verdictOn : ℕ → List Masks → Record → Verdict
+verdictOn n masks r = unlessBothWays (recordBothWays masks r) (judged n ((common r) .wire) (majorKind r))
+
 -- by the verdict: "stepped", or "as before"
 abbrev pub steppedBy : Verdict → Record → Hall → Stepped
 steppedBy (Takes next) r h = record { answer = Taken; hall = taken r next h }
 steppedBy (Refuses a) r h = record { answer = a; hall = h }
 
 unfoldable pub stepped : Record → Hall → Stepped
-stepped r h = steppedBy (judged (h .n) ((common r) .wire) (majorKind r)) r h
+stepped r h = steppedBy (verdictOn (h .n) (h .masks) r) r h

@@ -125,8 +125,8 @@ remembered now s =
 abbrev pub manifoldStep : Bool → JetState → JetState
 manifoldStep now s = remembered now (valveMoved (s .standing .valve) now s)
 
--- 5. Requests (1.3.4.3): "A jet named both ways is not changed. Inhibit: the inhibit comes in force, re-enable lapses, the jet fails.
--- Re-enable: the reverse, and the jet leaves the fail word."
+-- 5. Requests (1.3.4.3): "Inhibit: the inhibit comes in force, re-enable lapses, the jet fails. Re-enable: the reverse, and the jet
+-- leaves the fail word." No taken record names a mapped jet both ways (02, order 4); if the step is handed one, the inhibit decides.
 abbrev pub inhibited : JetState → JetState
 inhibited s = withOver (record { inhibit = true; reenable = false }) (withFail true s)
 
@@ -134,8 +134,7 @@ abbrev pub reenabled : JetState → JetState
 reenabled s = withOver (record { inhibit = false; reenable = true }) (withFail false s)
 
 unfoldable pub requested : Bool → Bool → JetState → JetState
-requested true true s = s
-requested true false s = inhibited s
+requested true reenable s = inhibited s
 requested false true s = reenabled s
 requested false false s = s
 

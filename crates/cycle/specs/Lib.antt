@@ -11,6 +11,7 @@ pub mod Records
 pub mod Hall
 pub mod Close
 pub mod Views
+pub mod BothWays
 pub mod Proper
 pub mod Turns
 pub mod Unmapped

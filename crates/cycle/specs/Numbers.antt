@@ -27,7 +27,7 @@ missedMajor old new = ltb (old / majorEvery) ((new - 1) / majorEvery)
 abbrev pub wrongKind : Bool → ℕ → Bool
 wrongKind major new = (isMajor new && not major) || (not (isMajor new) && major)
 
--- a record that is neither stale nor a repeat: 3 if n + d exceeds the last count, then 4, else it is taken
+-- a record that is neither stale nor a repeat: 3 if n + d exceeds the last count, then 4, else its number lets it be taken
 unfoldable pub following : ℕ → ℕ → Bool → Bool → Verdict
 following n d gap major =
     cond (ltb lastCount (n + d)) (Refuses CountEnded)
@@ -37,6 +37,6 @@ following n d gap major =
 unfoldable pub judgedAt : ℕ → ℕ → Bool → Verdict
 judgedAt d n major = cond (eqb d 0) (Refuses Repeat) (cond (ltb d staleFrom) (following n d (ltb 1 d) major) (Refuses Stale))
 
--- the verdict on a record, minor or major, with this wire cycle at the cycle number n
+-- the verdict by its number on a record, minor or major, with this wire cycle at the cycle number n
 unfoldable pub judged : ℕ → ℕ → Bool → Verdict
 judged n wire major = judgedAt (distance n wire) n major

@@ -135,17 +135,14 @@ manifolds m masks now s =
     (record { fail = s .standing .fail; reenable = s .over .reenable; saved = s .standing .saved }))
     s
 
--- 5. Requests: those named one way only are carried out
+-- 5. Requests: where a jet is named both ways, which no taken record does, the inhibit decides
 abbrev pub overridden : ℕ → ℕ → Overrides → Overrides
 overridden inhibit reenable x = record
-    { inhibit = without (bitOr (x .inhibit) inhibit) reenable; reenable = without (bitOr (x .reenable) reenable) inhibit }
-
-abbrev pub carriedOut : ℕ → ℕ → StringState → StringState
-carriedOut inhibit reenable s =
-    withOver (overridden inhibit reenable (s .over)) (withFail (without (bitOr (s .standing .fail) inhibit) reenable) s)
+    { inhibit = bitOr (without (x .inhibit) reenable) inhibit; reenable = without (bitOr (x .reenable) reenable) inhibit }
 
 unfoldable pub requested : ℕ → ℕ → StringState → StringState
-requested inhibit reenable s = carriedOut (without inhibit reenable) (without reenable inhibit) s
+requested inhibit reenable s =
+    withOver (overridden inhibit reenable (s .over)) (withFail (bitOr (without (s .standing .fail) reenable) inhibit) s)
 
 -- 6. the jets that leak, of a string's words: jet by jet, fuel word then oxidizer word
 abbrev pub jetLeaks : List ℕ → ℕ → Bool

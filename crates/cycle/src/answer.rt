@@ -1,4 +1,4 @@
-// The answers of document 01's table.
+// The answers of document 01's table, and 7 of document 02, order 4.
 ghost use mathlib.Core.Path.{_≡_};
 ghost use Rattle.cycle.specs.Answers.{numberOf};
 
@@ -10,6 +10,7 @@ pub enum Answer {
     WrongKind,
     OutboxShort,
     MapRefused,
+    BothWays,
     // No record was settled: no refusal, and no number of the table.
     NothingSettled,
 }
@@ -27,6 +28,7 @@ impl Answer {
             Answer::WrongKind => 4,
             Answer::OutboxShort => 5,
             Answer::MapRefused => 6,
+            Answer::BothWays => 7,
             Answer::NothingSettled => 255,
         }
     }

@@ -13,6 +13,7 @@ use crate::map::refused;
 use crate::number::Next;
 use crate::number::Verdict;
 use crate::number::judged;
+use crate::requests::both_ways;
 use crate::size::MODULES;
 use crate::size::STRINGS;
 use crate::string::StringState;
@@ -199,7 +200,9 @@ impl Hall {
         ensures { λ x. ⌜ x ≡ stepped (Record.major r) self ⌝ }
     {
         let minor = r.minor;
-        let v = judged(self.n, minor.wire, true);
+        let masks = self.masks;
+        let requests = r.requests;
+        let v = judged(self.n, minor.wire, true).unless(both_ways(masks, requests));
         match v {
             Verdict::Takes(next) => Stepped {
                 answer: Answer::Taken,

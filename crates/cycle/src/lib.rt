@@ -8,6 +8,7 @@ pub mod jet;
 pub mod leak;
 pub mod map;
 pub mod number;
+pub mod requests;
 pub mod size;
 pub mod string;
 pub mod values;

@@ -1,7 +1,8 @@
-// The cycle number: which answer a record gets, and what it leads to if it is taken.
+// The cycle number: which answer it brings a record, and what it leads to if it is taken; and the verdict, by number and requests.
 ghost use mathlib.Core.Path.{_≡_};
 ghost use Prim.Native.Nat.{_<_};
 ghost use Rattle.cycle.specs.Numbers.{distance, isMajor, missedMajor, following, judged};
+ghost use Rattle.cycle.specs.Hall.{unlessBothWays};
 use crate::answer::Answer;
 use crate::size::LAST_COUNT;
 use crate::size::MAJOR_EVERY;
@@ -16,6 +17,24 @@ pub struct Next {
 pub enum Verdict {
     Takes(Next),
     Refuses(Answer),
+}
+
+impl Verdict {
+    // 7, tested after 4: refuses a record that the verdict takes, if a jet is named both ways.
+    pub(crate) fn unless(self, named: bool) -> Verdict
+        ensures { λ r. ⌜ r ≡ unlessBothWays named self ⌝ }
+    {
+        match self {
+            Verdict::Takes(next) => {
+                if named {
+                    Verdict::Refuses(Answer::BothWays)
+                } else {
+                    Verdict::Takes(next)
+                }
+            }
+            Verdict::Refuses(answer) => Verdict::Refuses(answer),
+        }
+    }
 }
 
 // d: the wire cycle less the lowest 16 bits of n, modulo 65,536.
@@ -75,7 +94,7 @@ fn following(n: u32, d: u16, gap: bool, major: bool) -> Verdict
     }
 }
 
-// The verdict on a record, minor or major, with this wire cycle at the cycle number n.
+// The verdict by its number on a record, minor or major, with this wire cycle at the cycle number n.
 pub fn judged(n: u32, wire: u16, major: bool) -> Verdict
     ensures { λ r. ⌜ r ≡ judged n wire major ⌝ }
 {

@@ -274,17 +274,15 @@ impl StringState {
         next
     }
 
-    // Step 5.
+    // Step 5. Where both words name a jet, which no taken record does, the inhibit decides.
     fn requested(mut self, inhibit: u32, reenable: u32) -> StringState
         ensures { λ r. ⌜ r ≡ requested inhibit reenable self ⌝ }
     {
-        let i = without(inhibit, reenable);
-        let e = without(reenable, inhibit);
         let mut standing = self.standing;
         let mut over = self.over;
-        over.inhibit = without(over.inhibit | i, e);
-        over.reenable = without(over.reenable | e, i);
-        standing.fail = without(standing.fail | i, e);
+        over.inhibit = without(over.inhibit, reenable) | inhibit;
+        over.reenable = without(over.reenable | reenable, inhibit);
+        standing.fail = without(standing.fail, reenable) | inhibit;
         self.over = over;
         self.standing = standing;
         self

@@ -12,5 +12,6 @@ pub mod Tables
 pub mod Told
 pub mod HeardValues
 pub mod BadHeard
+pub mod BothWaysHeard
 pub mod Carried
 pub mod Padded

@@ -10,5 +10,7 @@ pub mod ReportPlaces
 pub mod BalanceBits
 pub mod ReportsTell
 pub mod CloseFirst
+pub mod TakenSo
 pub mod BadTaken
+pub mod OneWay
 pub mod ReliedOn

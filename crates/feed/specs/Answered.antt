@@ -1,18 +1,21 @@
 -- 01, "Which answer a record gets": the condition of each answer of a call, by the record r that it settles (its bytes, none where it
--- settles none), the hall and the room in the outbox; and what the call leaves. The numbers are written as document 01
--- writes them. Assumes nothing.
+-- settles none), the hall and the room in the outbox; and what the call leaves. The numbers are written as document 01 writes or adds them
+-- up. Assumes nothing.
 use mathlib.Core.Path.{_≡_}
+use mathlib.Core.Bool.{true}
 use mathlib.Core.List.{List, [], _++_}
 use mathlib.Core.Logic.{_⊎_, _↔_}
 use Prim.Native.Nat.{ℕ, _+_, _-_, _*_, _%_, _<_, _≤_}
 use lib.ListN.{length, getD, take, drop, replicate}
-use Rattle.cycle.specs.Map.{TwoMasks}
+use Rattle.bits.specs.Bit.{bit}
+use Rattle.cycle.specs.Map.{masksOf, inMask, TwoMasks}
 use Rattle.cycle.specs.Hall.{freshHall, stepped}
 use Rattle.cycle.specs.declared.answer.Answer.{Answer}
 use Rattle.cycle.specs.declared.answer.Answer.the-variants.{Taken, Stale, Repeat, CountEnded, WrongKind, OutboxShort, MapRefused}
-use Rattle.cycle.specs.declared.answer.Answer.the-variants.{NothingSettled}
+use Rattle.cycle.specs.declared.answer.Answer.the-variants.{BothWays, NothingSettled}
 use Rattle.cycle.specs.declared.hall.Hall.{Hall}
 use Rattle.cycle.specs.declared.map.Masks.{Masks}
+use Rattle.feed.specs.Bytes.{four}
 use Rattle.feed.specs.Good.{MinorRecord, MajorRecord, WholeRecord}
 use Rattle.feed.specs.Settled.{recordIn, valuesIn}
 use Rattle.feed.specs.Report.{reportOf}
@@ -39,15 +42,39 @@ Crossed new r = ((new % 25 ≡ 0) × (getD r 1 0 ≡ 0x4D)) ⊎ ((new % 25 ≡ 0
 abbrev pub Matched : ℕ → List ℕ → Type 0
 Matched new r = ((new % 25 ≡ 0) × (getD r 1 0 ≡ 0x4A)) ⊎ ((new % 25 ≡ 0 → ⊥) × (getD r 1 0 ≡ 0x4D))
 
--- column "when", "answer 5 is tested before anything else in a call; then 1 or 2, then 3, then 4"
+-- 02, order 4: "inhibit and re-enable for one jet", "only mapped jets counted and strings with the path bit set counted too". By the bytes
+-- of a major record: the bit of a jet that stands in a mask is set in its string's inhibit word and in its re-enable word.
+pub record BothWaysSaid (masks : List Masks) (r : List ℕ) : Type 0 where
+  pub mark : getD r 1 0 ≡ 0x4A
+  pub string : ℕ
+  pub manifold : ℕ
+  pub jet : ℕ
+  pub inHall : string < 4
+  pub inString : manifold < 4
+  pub stands : inMask (masksOf masks string) manifold jet
+  pub inhibit : bit jet (four r (569 + 8 * string)) ≡ true
+  pub reenable : bit jet (four r (573 + 8 * string)) ≡ true
+
+-- column "when", "answer 5 is tested before anything else in a call; then 1 or 2, then 3, then 4"; 02, order 4: "answer 7, tested after 4"
 abbrev pub Condition : Answer → Hall → ℕ → List ℕ → Type 0
-Condition Taken h room r = (34 ≤ room) × Ahead (h .n) r × (h .n + apart (h .n) r ≤ 4294967295) × Matched (h .n + apart (h .n) r) r
+Condition Taken h room r =
+    (34 ≤ room)
+    × Ahead (h .n) r
+    × (h .n + apart (h .n) r ≤ 4294967295)
+    × Matched (h .n + apart (h .n) r) r
+    × (BothWaysSaid (h .masks) r → ⊥)
 Condition Stale h room r = (34 ≤ room) × (0 < length r) × (32768 ≤ apart (h .n) r)
 Condition Repeat h room r = (34 ≤ room) × (0 < length r) × (apart (h .n) r ≡ 0)
 Condition CountEnded h room r = (34 ≤ room) × Ahead (h .n) r × (4294967295 < h .n + apart (h .n) r)
 Condition WrongKind h room r = (34 ≤ room) × Ahead (h .n) r × (h .n + apart (h .n) r ≤ 4294967295) × Crossed (h .n + apart (h .n) r) r
 Condition OutboxShort h room r = room < 34
 Condition MapRefused h room r = ⊥
+Condition BothWays h room r =
+    (34 ≤ room)
+    × Ahead (h .n) r
+    × (h .n + apart (h .n) r ≤ 4294967295)
+    × Matched (h .n + apart (h .n) r) r
+    × BothWaysSaid (h .masks) r
 Condition NothingSettled h room r = (34 ≤ room) × (r ≡ [])
 
 -- ---- what is left
@@ -69,6 +96,7 @@ Leaves WrongKind m piece out c = AsBefore WrongKind m out c
 Leaves OutboxShort m piece out c =
     c ≡ record { outcome = record { answer = OutboxShort; used = 0; monitor = m }; outbox = out }
 Leaves MapRefused m piece out c = ⊥
+Leaves BothWays m piece out c = AsBefore BothWays m out c
 Leaves NothingSettled m piece out c =
     (c .outcome .monitor .hall ≡ m .hall) × (c .outcome .used ≡ length piece) × (c .outbox ≡ out)
 

@@ -16,7 +16,7 @@ use Rattle.feed.specs.Calls.{Made, answerOf, reportIn}
 abbrev pub Shows : List Masks → ℕ → ℕ → Made → List Made → Type 0
 Shows masks s i c cs = bit i (getD (reportIn masks c cs) (7 + 5 * s + 4) 0) ≡ true
 
--- no report of these calls has it, also none that answers 1 to 4
+-- no report of these calls has it, also none that answers 1 to 4 or 7
 abbrev pub NeverShown : List Masks → ℕ → ℕ → List Made → Type 0
 NeverShown masks s i [] = Unit {0}
 NeverShown masks s i (c ∷ cs) = (writesReport (answerOf masks c cs) ≡ true → Shows masks s i c cs → ⊥) × NeverShown masks s i cs

@@ -1,6 +1,8 @@
 // The step: from a hall and the bytes of one record to the answer and the next hall.
 ghost use mathlib.Core.Path.{_≡_};
 ghost use mathlib.Core.Bool.{true};
+ghost use Rattle.cycle.specs.Hall.{recordBothWays};
+ghost use Rattle.feed.specs.Values.{valuesOf};
 ghost use Rattle.feed.specs.Step.{isWhole, stepOf};
 use crate::bytes::two_at;
 use crate::format::Look;
@@ -10,11 +12,15 @@ use crate::size::MAJOR_MARK;
 use crate::size::WIRE_AT;
 use crate::values::major_of;
 use crate::values::minor_of;
+use crate::values::requests_of;
 use cycle::answer::Answer;
 use cycle::hall::Hall;
 use cycle::hall::Stepped;
+use cycle::map::Masks;
 use cycle::number::Verdict;
 use cycle::number::judged;
+use cycle::requests::both_ways;
+use cycle::size::STRINGS;
 
 // Are the bytes one whole record and nothing else?
 fn is_whole(s: &[u8]) -> bool
@@ -53,8 +59,19 @@ pub fn step(hall: Hall, s: &[u8]) -> Stepped
     }
 }
 
-// The same step in the halves of the hall's own, for the run: a hall that takes one way through is changed in place, and a refused record
-// is not read. (By the hall's own step a record of clean feed costs two and a half times as much.)
+// Does a whole record name a jet of the map both ways? Only a major one has requests to be read.
+fn record_both_ways(masks: [Masks; STRINGS], s: &[u8]) -> bool
+    requires { ⌜ isWhole (now s) ≡ true ⌝ }
+    ensures { λ r. ⌜ r ≡ recordBothWays masks (valuesOf (now (s .entry))) ⌝ }
+{
+    if s[1] != MAJOR_MARK {
+        return false;
+    }
+    both_ways(masks, requests_of(s))
+}
+
+// The same step in the halves of the hall's own, for the run: a hall that takes one way through is changed in place, and of a refused
+// record at most the requests are read. (By the hall's own step a record of clean feed costs two and a half times as much.)
 pub(crate) fn step_whole(hall: Hall, s: &[u8]) -> Stepped
     requires { ⌜ isWhole (now s) ≡ true ⌝ }
     ensures { λ r. ⌜ r ≡ stepOf (now (s .entry)) hall ⌝ }
@@ -63,6 +80,13 @@ pub(crate) fn step_whole(hall: Hall, s: &[u8]) -> Stepped
     let v = judged(hall.n, two_at(s, WIRE_AT), major);
     match v {
         Verdict::Takes(next) => {
+            let masks = hall.masks;
+            if record_both_ways(masks, s) {
+                return Stepped {
+                    answer: Answer::BothWays,
+                    hall: hall,
+                };
+            }
             let r = minor_of(s);
             let h = hall.minor_taken(r, next);
             if major {

@@ -119,7 +119,7 @@ fn requests_at(s: &[u8], i: usize) -> Requests
     }
 }
 
-fn requests_of(s: &[u8]) -> [Requests; STRINGS]
+pub(crate) fn requests_of(s: &[u8]) -> [Requests; STRINGS]
     requires { ⌜ majorLength ≤ length (now s) ⌝ }
     ensures { λ r. ⌜ r ≡ requestsOf (now (s .entry)) ⌝ }
 {

@@ -18,6 +18,7 @@ use Rattle.cycle.proofs.answer.Answer.number as answer-number
 use Rattle.cycle.proofs.map.Masks.none as masks-none
 use Rattle.cycle.proofs.map.Masks.mapped as masks-mapped
 use Rattle.cycle.proofs.number.judged as judged
+use Rattle.cycle.proofs.requests.«both_ways» as both-ways
 use Rattle.cycle.proofs.hall.Hall.fresh as hall-fresh
 use Rattle.cycle.proofs.hall.Hall.«minor_taken» as hall-minor-taken
 use Rattle.cycle.proofs.hall.Hall.«major_taken» as hall-major-taken
@@ -98,6 +99,9 @@ masks-mapped-asks κs a = tt
 
 pub judged-asks : AsksNothing judged.ended judged.Reads.Pre
 judged-asks κs a = tt
+
+pub both-ways-asks : AsksNothing both-ways.ended both-ways.Reads.Pre
+both-ways-asks κs a = tt
 
 pub hall-fresh-asks : AsksNothing hall-fresh.ended hall-fresh.Reads.Pre
 hall-fresh-asks κs a = tt

@@ -4,11 +4,11 @@ use mathlib.Core.Path.{_≡_}
 use denote.Ref.{now}
 use Rattle.bits.specs.Bit.{bit, withBit}
 use Rattle.bits.specs.Bit as bits
-use Rattle.cycle.specs.Size.{manifoldCount}
+use Rattle.cycle.specs.Size.{stringCount, manifoldCount}
 use Rattle.cycle.specs.Answers.{numberOf}
 use Rattle.cycle.specs.Map.{noMasks, mapped}
 use Rattle.cycle.specs.Numbers as numbers
-use Rattle.cycle.specs.Hall.{freshHall, started, minorTaken, majorTaken}
+use Rattle.cycle.specs.Hall.{freshHall, started, minorTaken, majorTaken, bothWays}
 use Rattle.feed.specs.Bytes.{two, four, inTwo, inFour, putOver}
 use Rattle.feed.specs.Format.{sumOf}
 use Rattle.feed.specs.Values.{minorOf, majorOf}
@@ -24,6 +24,7 @@ use Rattle.cycle.proofs.answer.Answer.number as answer-number
 use Rattle.cycle.proofs.map.Masks.none as masks-none
 use Rattle.cycle.proofs.map.Masks.mapped as masks-mapped
 use Rattle.cycle.proofs.number.judged as judged
+use Rattle.cycle.proofs.requests.«both_ways» as both-ways
 use Rattle.cycle.proofs.hall.Hall.fresh as hall-fresh
 use Rattle.cycle.proofs.hall.Hall.«minor_taken» as hall-minor-taken
 use Rattle.cycle.proofs.hall.Hall.«major_taken» as hall-major-taken
@@ -62,6 +63,9 @@ masks-mapped-is κs a x w p = p
 
 pub judged-is : Says judged.ended judged.Reads.Post (λ κs a x w. x ≡ numbers.judged (a .0) (a .1 .0) (a .1 .1 .0))
 judged-is κs a x w p = p
+
+pub both-ways-is : Says both-ways.ended both-ways.Reads.Post (λ κs a x w. x ≡ bothWays stringCount (a .0) (a .1 .0))
+both-ways-is κs a x w p = p
 
 pub hall-fresh-is : Says hall-fresh.ended hall-fresh.Reads.Post (λ κs a x w. x ≡ freshHall (a .0))
 hall-fresh-is κs a x w p = p

@@ -11,7 +11,7 @@ use Rattle.cycle.specs.Numbers.{isMajor, missedMajor, following, judgedAt, judg
 use Rattle.cycle.specs.Words.{recovered, gapped, offFailure, manifold, passed, manifolds, minorSteps, minorCycle}
 use Rattle.cycle.specs.Words.{requested, leakWord, badJets, closeBits, rechecked, onFailure, kept, majorSteps, majorCycle}
 use Rattle.cycle.specs.Banks.{weighed, weighedAll}
-use Rattle.cycle.specs.Hall.{freshHall, started, minorStrings, majorStrings, taken, stepped}
+use Rattle.cycle.specs.Hall.{freshHall, started, minorStrings, majorStrings, taken, bothWays, unlessBothWays, verdictOn, stepped}
 use Rattle.cycle.specs.Inside.Runs.{hallAfter}
 use Rattle.cycle.specs.declared.answer.Answer.{Answer}
 use Rattle.cycle.specs.declared.answer.Answer.the-variants.{Taken, Stale, Repeat}
@@ -37,9 +37,9 @@ pub steps-of : Stepping (majorBytes 25) (freshHall nightMap) Taken hallAt25 (rep
     × Stepping (minorBytes 10) hallAt50 Stale hallAt50 (reportOfString 1 50 0x00000002 0x00)
 unfolding bit without meets withBit pack any each table mapped isMajor missedMajor following judgedAt judged recovered gapped offFailure
     manifold passed manifolds requested leakWord badJets closeBits rechecked onFailure kept minorSteps majorSteps minorCycle majorCycle
-    weighed weighedAll freshHall minorStrings majorStrings taken stepped hallAfter samplesOf minorOf wordsAt temperaturesOf requestsOf
-    quantitiesOf majorOf valuesOf parts headOf stringBytes stringsBytes balanceOf lesserBytes banksBytes reportOf warmWords majorBytes
-    minorBytes hallAt25 hallAt50 hallAt75
+    weighed weighedAll freshHall minorStrings majorStrings taken bothWays unlessBothWays verdictOn stepped hallAfter samplesOf minorOf
+    wordsAt temperaturesOf requestsOf quantitiesOf majorOf valuesOf parts headOf stringBytes stringsBytes balanceOf lesserBytes banksBytes
+    reportOf warmWords majorBytes minorBytes hallAt25 hallAt50 hallAt75
 steps-of = (
   record { step = refl; told = refl },
   record { step = refl; told = refl },
@@ -49,7 +49,8 @@ steps-of = (
 )
 
 pub numbers : (hallAt25 .n ≡ 25) × (hallAt50 .n ≡ 50) × (hallAt75 .n ≡ 75)
-unfolding isMajor missedMajor following judgedAt judged freshHall taken stepped hallAfter hallAt25 hallAt50 hallAt75
+unfolding meets any mapped isMajor missedMajor following judgedAt judged freshHall taken bothWays unlessBothWays verdictOn stepped hallAfter
+    hallAt25 hallAt50 hallAt75
 numbers = (refl, refl, refl)
 
 -- the map is accepted

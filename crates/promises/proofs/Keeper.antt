@@ -30,7 +30,7 @@ use Rattle.feed.proofs.Calls.NoLongWait as wait
 use Rattle.feed.proofs.Reports.CloseFirst as close
 use Rattle.feed.proofs.Reports.ReliedOn as relied
 
--- ---- in every report, also one that answers 1 to 4
+-- ---- in every report, also one that answers 1 to 4 or 7
 
 module _ (masks : List Masks) (words : FitMap masks) (accepted : refused stringCount masks ≡ false) (c : Made) (cs : List Made)
     (written : writesReport (answerOf masks c cs) ≡ true) where
@@ -68,7 +68,7 @@ module _ (m : Monitor) (piece out : List ℕ) where
   pub number-rises : ((call m piece out) .outcome .answer ≡ Taken) ↔ (m .hall .n < (call m piece out) .outcome .monitor .hall .n)
   number-rises = relied.number-rises m piece out
 
-  -- on answers 1 to 4 the hall is the one before, with the bytes that the reader then holds
+  -- on answers 1 to 4 and 7 the hall is the one before, with the bytes that the reader then holds
   pub refused-keeps : writesReport ((call m piece out) .outcome .answer) ≡ true → isTaken ((call m piece out) .outcome .answer) ≡ false
       → (call m piece out) .outcome .monitor ≡ holding (m .hall) (holds ((call m piece out) .outcome .monitor))
   refused-keeps = relied.refused-keeps m piece out

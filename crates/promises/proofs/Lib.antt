@@ -18,3 +18,4 @@ pub mod InstanceWrites
 pub mod SmallRules
 pub mod Keeper
 pub mod Promises
+pub mod Writer

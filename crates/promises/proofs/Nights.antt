@@ -9,7 +9,7 @@ use Rattle.cycle.specs.Numbers.{isMajor, missedMajor, following, judgedAt, judg
 use Rattle.cycle.specs.Words.{pathLost, recovered, gapped, offFailure, manifold, passed, manifolds, minorSteps, minorCycle}
 use Rattle.cycle.specs.Words.{requested, leakWord, badJets, closeBits, rechecked, onFailure, kept, majorSteps, majorCycle}
 use Rattle.cycle.specs.Banks.{weighed, weighedAll}
-use Rattle.cycle.specs.Hall.{freshHall, started, minorStrings, majorStrings, taken, stepped}
+use Rattle.cycle.specs.Hall.{freshHall, started, minorStrings, majorStrings, taken, bothWays, unlessBothWays, verdictOn, stepped}
 use Rattle.feed.specs.Format.{rowOf, markOf, total, sumOf, reservedZero, quantitiesRight, goodMinor, goodMajor, markedLook, look}
 use Rattle.feed.specs.Reader.{settle, reads}
 use Rattle.feed.specs.Values.{samplesOf, minorOf, wordsAt, temperaturesOf, requestsOf, quantitiesOf, majorOf, valuesOf}
@@ -22,6 +22,7 @@ use Rattle.promises.specs.NightHolds.{Night, EachHolds, outcomes, before
 use Rattle.promises.specs.NightsOfLeaks.{temperatureNights, frozenNights}
 use Rattle.promises.specs.NightsOfJets.{jetNights}
 use Rattle.promises.specs.NightsOfRequests.{requestNights}
+use Rattle.promises.specs.NightsOfBothWays.{bothWaysNights}
 use Rattle.promises.specs.NightsOfManifolds.{manifoldNights}
 use Rattle.promises.specs.NightsOfPaths.{pathNights}
 use Rattle.promises.specs.NightsOfLostValves.{lostValveNights}
@@ -31,10 +32,10 @@ use Rattle.promises.specs.Nights.{starredNights, nights}
 computed : Unit {0}
 unfolding bit without meets withBit pack any every each table mapped overlap refused isMajor missedMajor following judgedAt judged pathLost
     recovered gapped offFailure manifold passed manifolds requested leakWord badJets closeBits rechecked onFailure kept minorSteps
-    majorSteps minorCycle majorCycle weighed weighedAll freshHall started minorStrings majorStrings taken stepped rowOf markOf total sumOf
-    reservedZero quantitiesRight goodMinor goodMajor markedLook look settle reads samplesOf minorOf wordsAt temperaturesOf requestsOf
-    quantitiesOf majorOf valuesOf isWhole stepOf parts headOf stringBytes stringsBytes balanceOf lesserBytes banksBytes reportOf
-    startedOver called call outcomes beforeRefusals afterRefusals calls cycles warmWords
+    majorSteps minorCycle majorCycle weighed weighedAll freshHall started minorStrings majorStrings taken bothWays unlessBothWays verdictOn
+    stepped rowOf markOf total sumOf reservedZero quantitiesRight goodMinor goodMajor markedLook look settle reads samplesOf minorOf wordsAt
+    temperaturesOf requestsOf quantitiesOf majorOf valuesOf isWhole stepOf parts headOf stringBytes stringsBytes balanceOf lesserBytes
+    banksBytes reportOf startedOver called call outcomes beforeRefusals afterRefusals calls cycles warmWords
 computed = tt
 
 -- part by part, since what one law may compute is bounded
@@ -57,7 +58,11 @@ nights-hold-of-jets = (refl, (refl, tt))
 
 nights-hold-of-requests : EachHolds requestNights
 unfolding computed requestNights
-nights-hold-of-requests = (refl, (refl, (refl, (refl, tt))))
+nights-hold-of-requests = (refl, (refl, (refl, tt)))
+
+nights-hold-of-both-ways : EachHolds bothWaysNights
+unfolding computed bothWaysNights
+nights-hold-of-both-ways = (refl, (refl, (refl, (refl, tt))))
 
 nights-hold-of-manifolds : EachHolds manifoldNights
 unfolding computed manifoldNights
@@ -84,4 +89,5 @@ nights-hold =
     (both-hold requestNights _ nights-hold-of-requests
     (both-hold manifoldNights _ nights-hold-of-manifolds
     (both-hold pathNights _ nights-hold-of-paths
-    (both-hold lostValveNights frozenNights nights-hold-of-lost-valves nights-hold-frozen))))))
+    (both-hold lostValveNights _ nights-hold-of-lost-valves
+    (both-hold frozenNights bothWaysNights nights-hold-frozen nights-hold-of-both-ways)))))))

@@ -1,52 +1,51 @@
 -- The front door: what the customer asked for, each demand as theorems about the very definitions that the contracts cite: `call`,
--- `startedOver`, `startedFrom` and `runs` (feed, specs/Call and Masks), and `write` (writer, specs/Write). That whatever the contracts of
--- `Monitor::call`, `start`, `start_from`, `run`, the hall's step and the writer allow is what these definitions say, and that no public
--- function asks anything of its caller, is proved in `Contracts`; what people rely on beyond the demands in `Keeper`. The words of each
--- statement are defined in specs/ of `writer`, `feed` and `cycle`; each proof is a citation. Assumes nothing.
-use mathlib.Core.Path.{_≡_, sym, _∙_}
+-- `startedOver`, `startedFrom` and `runs` (feed, specs/Call and Masks). Beside it `Writer`, order 1 of document 02, about `write`. That
+-- whatever the contracts of `Monitor::call`, `start`, `start_from`, `run`, the hall's step and the writer allow is what these definitions
+-- say, and that no public function asks anything of its caller, is proved in `Contracts`; what people rely on beyond the demands in
+-- `Keeper`. The words of each statement are defined in specs/ of `feed` and `cycle`; each proof is a citation. Assumes nothing.
+use mathlib.Core.Path.{_≡_, refl, sym, _∙_}
 use mathlib.Core.Bool.{true, false, _&&_, _||_}
 use mathlib.Core.List.{List, [], _∷_, _++_}
 use mathlib.Core.Logic.{_↔_}
 use Prim.Native.Nat.{ℕ, _+_, _*_, _/_, _%_, _<_, _≤_}
-use lib.ListN.{length, getD, take, drop}
+use lib.ListN.{length, getD, take}
 use Rattle.bits.specs.Bit.{bit, any}
 use Rattle.cycle.specs.Size.{stringCount, manifoldCount}
-use Rattle.cycle.specs.Answers.{isTaken, writesReport}
+use Rattle.cycle.specs.Answers.{numberOf, isTaken, writesReport}
 use Rattle.cycle.specs.Jets.{JetRecord, isBad, reached, run, cycle, asksAt}
 use Rattle.cycle.specs.Words.{manifolds}
 use Rattle.cycle.specs.Records.{Record, minor}
 use Rattle.cycle.specs.Hall.{sampleOf, stringOf, stepped}
 use Rattle.cycle.specs.Views.{jetOf}
 use Rattle.cycle.specs.Proper.{ProperHall}
+use Rattle.cycle.specs.BothWays.{NamedBothWays, NoneBefore}
 use Rattle.cycle.specs.Turns.{FourTurns, Shaped, beforeTurns}
 use Rattle.cycle.specs.Unmapped.{Alike, UnmappedNone}
 use Rattle.cycle.specs.Map.{masksOf, inMask, FitMap, refused}
 use Rattle.cycle.specs.Close.{Rising, Third}
 use Rattle.cycle.specs.declared.answer.Answer.{Answer}
-use Rattle.cycle.specs.declared.answer.Answer.the-variants.{Taken, NothingSettled}
+use Rattle.cycle.specs.declared.answer.Answer.the-variants.{Taken, Stale, Repeat, CountEnded, WrongKind, OutboxShort, MapRefused}
+use Rattle.cycle.specs.declared.answer.Answer.the-variants.{BothWays, NothingSettled}
 use Rattle.cycle.specs.declared.hall.Hall.{Hall}
 use Rattle.cycle.specs.declared.map.Masks.{Masks}
 use Rattle.cycle.specs.declared.string.StringState.{StringState}
 use Rattle.cycle.specs.declared.values.Minor.{Minor}
 use Rattle.cycle.proofs.Close.{asks-third}
+use Rattle.cycle.proofs.Verdicts as verdicts
 use Rattle.cycle.proofs.Turns as turns
 use Rattle.cycle.proofs.TurnsTaken as turning
 use Rattle.cycle.proofs.UnmappedAlike as alike
 use Rattle.feed.specs.Bytes.{four}
 use Rattle.feed.specs.Heard.{Heard, Each, jetHeard, BadSaid}
-use Rattle.feed.specs.Settled.{recordIn, valuesIn}
-use Rattle.feed.specs.Answered.{Condition, Leaves, Read, Starts}
-use Rattle.feed.specs.Call.{holds, holding, Result, startedOver, call, runs}
+use Rattle.feed.specs.Settled.{recordIn}
+use Rattle.feed.specs.Answered.{BothWaysSaid, Condition, Leaves, Read, Starts}
+use Rattle.feed.specs.Call.{holds, Result, startedOver, call, runs}
 use Rattle.feed.specs.Masks.{masksOfBytes, startedFrom}
 use Rattle.feed.specs.Calls.{Made, monitorAfter, answerOf, reportIn, takenReports, takenRecords, Hands, Finished, joined, FinishedPieces}
 use Rattle.feed.specs.PutIn.{PutIn}
 use Rattle.feed.specs.Tells.{Tells}
 use Rattle.feed.specs.CloseShown.{Shows, NeverShown, ThirdEver, Earliest}
 use Rattle.feed.specs.Batch.{Continues}
-use Rattle.feed.specs.Good.{WholeRecord}
-use Rattle.feed.specs.Values.{valuesOf}
-use Rattle.feed.specs.Report.{reportOf}
-use Rattle.feed.specs.OneRecord.{settledTo, waitingFor}
 use Rattle.feed.specs.declared.call.Monitor.{Monitor}
 use Rattle.feed.proofs.Answers.Answered.{answers-exactly}
 use Rattle.feed.proofs.Answers.Left.{call-leaves}
@@ -60,31 +59,29 @@ use Rattle.feed.proofs.Cutting.Finishing as finishing
 use Rattle.feed.proofs.Cutting.Pieces as inPieces
 use Rattle.feed.proofs.Reports.CloseFirst as close
 use Rattle.feed.proofs.Reports.BadTaken as bad
+use Rattle.feed.proofs.Reports.OneWay as oneWay
 use Rattle.feed.proofs.Calls.Batches.{batch-continues}
-use Rattle.writer.specs.RecordBytes.{bytesOf}
-use Rattle.writer.specs.Write.{Wrote, wrote, write}
-use Rattle.writer.specs.Fit.{FitRecord}
-use Rattle.writer.specs.Answers.{numberOf}
-use Rattle.writer.specs.Refused.{AnsweredWhen, Numbered, needed}
-use Rattle.writer.specs.Does.{Does}
-use Rattle.writer.specs.Sent.{monitorOver, reportsOver, AllWritten, sentBytes, hallFed, reportsFed}
-use Rattle.writer.specs.declared.answer.Writing.{Writing}
-use Rattle.writer.specs.declared.answer.Writing.the-variants.{Written}
-use Rattle.writer.proofs.Doing as doing
-use Rattle.writer.proofs.Refusals as refusing
-use Rattle.writer.proofs.Sending as sending
-use Rattle.writer.proofs.Feeding as feeding
-use Rattle.writer.proofs.WriteBack as written-again
-use Rattle.writer.proofs.WrittenBack as back
 
 -- ---- Demand 1: "The refusals are numbered, each given under its stated condition and no other; after one, monitor and outbox are as the
--- table says." That a call stays within its memory and ends is part of what a proved contract of `Monitor::call` says.
+-- table says." 02, order 4: "The refusals are now seven." That a call stays within its memory and ends is part of what a proved contract of
+-- `Monitor::call` says.
 
 -- For every state, piece and outbox each answer, 'taken' and 'nothing settled' included, is given if and only if its condition holds: of
 -- the record that the call settles, the hall and the outbox's length.
 pub answers : (m : Monitor) (piece out : List ℕ) (a : Answer)
     → ((call m piece out) .outcome .answer ≡ a) ↔ Condition a (m .hall) (length out) (recordIn (holds m ++ piece))
 answers = answers-exactly
+
+-- their numbers; 'nothing settled' is no refusal and has none of them
+pub numbered : (numberOf Taken ≡ 0)
+    × (numberOf Stale ≡ 1)
+    × (numberOf Repeat ≡ 2)
+    × (numberOf CountEnded ≡ 3)
+    × (numberOf WrongKind ≡ 4)
+    × (numberOf OutboxShort ≡ 5)
+    × (numberOf MapRefused ≡ 6)
+    × (numberOf BothWays ≡ 7)
+numbered = (refl, refl, refl, refl, refl, refl, refl, refl)
 
 -- so exactly one condition holds
 pub one-answer : (m : Monitor) (piece out : List ℕ) (a b : Answer)
@@ -159,7 +156,7 @@ run-is-calls = batch-continues
 
 module _ (masks : List Masks) (words : FitMap masks) (accepted : refused stringCount masks ≡ false) where
   -- Demand 2: "Each reported bit equals what the jet-by-jet rules say for the records taken so far." In every report, also one that
-  -- answers 1 to 4.
+  -- answers 1 to 4 or 7.
   pub reports-tell : (c : Made) (cs : List Made) → writesReport (answerOf masks c cs) ≡ true
       → Tells masks (answerOf masks c cs) (takenRecords masks (c ∷ cs)) (reportIn masks c cs)
   reports-tell = reports.reports-tell masks words accepted
@@ -170,7 +167,16 @@ module _ (masks : List Masks) (words : FitMap masks) (accepted : refused stringC
       → Each (λ t. t .n % 25 ≡ 0 → (isBad (jetHeard s i j t) ≡ true) ↔ BadSaid s j (t .bytes)) (takenRecords masks cs)
   bad-said = bad.bad-taken masks words accepted
 
-  -- Demand 3, close, for manifold i of string s
+  -- 02, order 4: no record taken names a mapped jet both ways, by its bytes; and so step 5 never meets such a jet
+  pub taken-one-way : (cs : List Made) → Each (λ t. BothWaysSaid masks (t .bytes) → ⊥) (takenRecords masks cs)
+  taken-one-way = oneWay.one-way-taken masks words accepted
+
+  pub jet-one-way : (s i j : ℕ) → s < 4 → i < 4 → inMask (masksOf masks s) i j → (cs : List Made)
+      → Each (λ t. ((jetHeard s i j t) .inhibit && (jetHeard s i j t) .reenable) ≡ false) (takenRecords masks cs)
+  jet-one-way = oneWay.jet-one-way masks words accepted
+
+  -- Demand 3, close, for manifold i of string s. 02, order 4: "A record so refused is not taken, so for demand 3 that major cycle is
+  -- missed, unless a later record for the same cycle is taken.": `both-ways-missed`, below
   module _ (s i : ℕ) (string : s < 4) (manifold : i < 4) where
     -- the close command is in a report if and only if the newest record taken or an earlier one is such a third major cycle
     pub close-shown : (c : Made) (cs : List Made) → writesReport (answerOf masks c cs) ≡ true
@@ -187,6 +193,12 @@ module _ (masks : List Masks) (words : FitMap masks) (accepted : refused stringC
     pub close-never : (cs : List Made)
         → NeverShown masks s i cs ↔ (ThirdEver (getD (masksOf masks s) i 0) s i (takenRecords masks cs) → ⊥)
     close-never = close.close-never masks words accepted s i string manifold
+
+-- a record answered 7 is none of the records taken, and leaves the hall as it was: the number n too, so that a later record for the same
+-- cycle finds what the one before it found
+pub both-ways-missed : (masks : List Masks) (c : Made) (cs : List Made) → answerOf masks c cs ≡ BothWays
+    → (takenRecords masks (c ∷ cs) ≡ takenRecords masks cs) × ((monitorAfter masks (c ∷ cs)) .hall ≡ (monitorAfter masks cs) .hall)
+both-ways-missed = oneWay.both-ways-missed
 
 -- ---- The local law of the close
 
@@ -236,6 +248,16 @@ pub turns-taken : (h : Hall) → Shaped h → (r : Minor) (s : ℕ) → s < 4 �
     (stringOf ((stepped (minor r) h) .hall) s)
 turns-taken = turning.turns-taken
 
+-- 02, order 4, of values handed straight to the hall: 7 if and only if none of 1 to 4 applies and a mapped jet is named both ways; 0 if and
+-- only if none of 1 to 4 applies and none is
+pub hall-both-ways : (r : Record) (h : Hall)
+    → ((stepped r h) .answer ≡ BothWays) ↔ (NoneBefore (h .n) r × NamedBothWays (h .masks) r)
+hall-both-ways = verdicts.hall-both-ways
+
+pub hall-takes : (r : Record) (h : Hall)
+    → ((stepped r h) .answer ≡ Taken) ↔ (NoneBefore (h .n) r × (NamedBothWays (h .masks) r → ⊥))
+hall-takes = verdicts.hall-takes
+
 -- "Bits and temperatures of jets in no mask are ignored everywhere": two records that agree on all but those step every hall alike; and
 -- from fresh their bits are 0 in every state.
 pub alike-step : (h : Hall) (a b : Record) → Alike (h .masks) a b → stepped a h ≡ stepped b h
@@ -243,82 +265,3 @@ alike-step = alike.alike-step
 
 pub unmapped-none : (masks : List Masks) (cs : List Made) → UnmappedNone ((monitorAfter masks cs) .hall)
 unmapped-none = handed.unmapped-none
-
--- ---- 02, order 1: "A writer of feed records." Values are as their arrays and types hold them: `FitRecord`. "Demands 2 and 3 read as
--- before.": their theorems stand above.
-
--- "Given the values of a minor or major record, write its 59 or 615 bytes into a lent outbox; refuse a reserved bit or a quantity above
--- 1,000, or an outbox too short, leaving the outbox unchanged, in that order of checks. Bytes past the record keep their values." Each
--- answer is given if and only if its condition holds of the values and the outbox's length; what is written is a whole record, and its
--- values, place by place, are those given. Only what `write` gives back is all that.
-pub writer-does : (r : Record) → FitRecord r → (out : List ℕ) → Does r out (write r out)
-writer-does = doing.writer-does
-
-pub only-writer : (r : Record) → FitRecord r → (out : List ℕ) (x : Wrote) → Does r out x → x ≡ write r out
-only-writer = doing.only-writer
-
--- of any values at all: each answer if and only if its condition holds; on a refusal the outbox is the one handed in; and what is written
--- is called `bytesOf r` below, as many bytes as the record has, and behind them what was there
-pub writer-answers : (r : Record) (out : List ℕ) (a : Writing) → ((write r out) .answer ≡ a) ↔ AnsweredWhen a r (length out)
-writer-answers = refusing.writes-exactly
-
-pub refused-unchanged : (r : Record) (out : List ℕ) → ((write r out) .answer ≡ Written → ⊥) → (write r out) .outbox ≡ out
-refused-unchanged = refusing.refused-as-it-was
-
-pub written-bytes : (r : Record) (out : List ℕ) → (write r out) .answer ≡ Written
-    → ((write r out) .outbox ≡ bytesOf r ++ drop (needed r) out) × (length (bytesOf r) ≡ needed r)
-written-bytes = refusing.written-bytes
-
--- "Refusal numbers are the writer's own, listed in docs/."
-pub writer-numbers : (r : Record) (out : List ℕ) → Numbered (numberOf ((write r out) .answer)) r (length out)
-writer-numbers = refusing.writer-numbers
-
--- "An empty reader given what was written gives the values back": a record that was written, and any monitor that holds nothing, whatever
--- its hall
-module _ (r : Record) (fits : FitRecord r) (box : List ℕ) (written : (write r box) .answer ≡ Written) (m : Monitor) (empty : holds m ≡ [])
-    (out : List ℕ) (room : 34 ≤ length out) where
-  -- in one piece, with anything behind: exactly that record is settled, its values are those given, exactly its bytes are used, nothing is
-  -- held, and the hall steps by exactly those values
-  pub read-back : (behind : List ℕ)
-      → (recordIn (holds m ++ (bytesOf r ++ behind)) ≡ bytesOf r)
-      × (valuesIn (holds m ++ (bytesOf r ++ behind)) ≡ r)
-      × (call m (bytesOf r ++ behind) out ≡ settledTo (stepped r (m .hall)) (needed r) out)
-  read-back behind = sending.one-piece r box written fits m behind out empty room
-
-  -- cut anywhere: the calls leave the same monitor, and write that one report
-  pub read-back-in-pieces : (pieces : List (List ℕ)) → joined pieces ≡ bytesOf r
-      → (monitorOver m pieces out ≡ holding ((stepped r (m .hall)) .hall) [])
-      × (reportsOver m pieces out ≡ reportOf ((stepped r (m .hall)) .answer) ((stepped r (m .hall)) .hall) ∷ [])
-  read-back-in-pieces pieces = sending.in-pieces r box written fits out room m pieces empty
-
--- piece by piece, whatever the monitor holds of the record: the rest settles it, with anything behind, and less than that waits
-module _ (r : Record) (box : List ℕ) (written : (write r box) .answer ≡ Written) (m : Monitor) (out : List ℕ) (room : 34 ≤ length out) where
-  pub last-settles : FitRecord r → (last behind : List ℕ) → holds m ++ last ≡ bytesOf r
-      → call m (last ++ behind) out ≡ settledTo (stepped r (m .hall)) (length last) out
-  last-settles fits last behind here = sending.last-settles r box written fits m last behind out here room
-
-  pub rest-waits : (piece rest : List ℕ) → holds m ++ (piece ++ rest) ≡ bytesOf r → 0 < length rest
-      → call m piece out ≡ waitingFor m piece out
-  rest-waits piece rest here more = sending.rest-waits r box written m piece rest out here more room
-
--- records written one after the other, from fresh, however the feed is cut: the reports that answer 'taken' are those of their values, and
--- so is the end state
-pub sent-feed : (masks : List Masks) (rs : List Record) → AllWritten rs → (cs : List Made) → Finished masks (sentBytes rs) cs
-    → (takenReports masks cs ≡ reportsFed rs ((startedOver masks) .monitor .hall))
-    × (monitorAfter masks cs ≡ holding (hallFed rs ((startedOver masks) .monitor .hall)) [])
-sent-feed = feeding.sent-feed
-
--- "writing what a settled record held gives its bytes back": for every whole record of bytes, and so for whatever any call settles
-pub whole-back : (l : List ℕ) → ((i : ℕ) → getD l i 0 < 256) → WholeRecord l → (out : List ℕ) → length l ≤ length out
-    → write (valuesOf l) out ≡ wrote Written (l ++ drop (length l) out)
-whole-back = back.whole-back
-
-pub settled-back : (m : Monitor) (piece : List ℕ) → ((i : ℕ) → getD (holds m ++ piece) i 0 < 256)
-    → 0 < length (recordIn (holds m ++ piece)) → (out : List ℕ) → length (recordIn (holds m ++ piece)) ≤ length out
-    → write (valuesIn (holds m ++ piece)) out
-    ≡ wrote Written (recordIn (holds m ++ piece) ++ drop (length (recordIn (holds m ++ piece))) out)
-settled-back m piece = back.settled-back (holds m ++ piece)
-
--- bytes carry values as their arrays and types hold them
-pub values-fit : (l : List ℕ) → ((i : ℕ) → getD l i 0 < 256) → FitRecord (valuesOf l)
-values-fit = written-again.values-fit

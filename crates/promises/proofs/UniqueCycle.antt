@@ -5,6 +5,7 @@ use Rattle.cycle.proofs.answer.Answer.number as answer-number
 use Rattle.cycle.proofs.map.Masks.none as masks-none
 use Rattle.cycle.proofs.map.Masks.mapped as masks-mapped
 use Rattle.cycle.proofs.number.judged as judged
+use Rattle.cycle.proofs.requests.«both_ways» as both-ways
 use Rattle.cycle.proofs.hall.Hall.fresh as hall-fresh
 use Rattle.cycle.proofs.hall.Hall.«minor_taken» as hall-minor-taken
 use Rattle.cycle.proofs.hall.Hall.«major_taken» as hall-major-taken
@@ -23,6 +24,9 @@ masks-mapped-one κs a x x′ w w′ p q = (p ∙ sym q, refl)
 
 pub judged-one : OneOutcome judged.ended judged.Reads.Post
 judged-one κs a x x′ w w′ p q = (p ∙ sym q, refl)
+
+pub both-ways-one : OneOutcome both-ways.ended both-ways.Reads.Post
+both-ways-one κs a x x′ w w′ p q = (p ∙ sym q, refl)
 
 pub hall-fresh-one : OneOutcome hall-fresh.ended hall-fresh.Reads.Post
 hall-fresh-one κs a x x′ w w′ p q = (p ∙ sym q, refl)

@@ -5,6 +5,7 @@ pub mod NightBytes
 pub mod NightsOfLeaks
 pub mod NightsOfJets
 pub mod NightsOfRequests
+pub mod NightsOfBothWays
 pub mod NightsOfManifolds
 pub mod NightsOfPaths
 pub mod NightsOfLostValves

@@ -7,6 +7,7 @@ use lib.ListN.{replicate}
 use Rattle.cycle.specs.Map.{noMasks}
 use Rattle.cycle.specs.Numbers.{isMajor}
 use Rattle.cycle.specs.Hall.{noRequests}
+use Rattle.cycle.specs.declared.answer.Answer.the-variants.{Taken}
 use Rattle.cycle.specs.declared.map.Masks.{Masks}
 use Rattle.cycle.specs.declared.values.Sample.{Sample}
 use Rattle.cycle.specs.declared.values.Requests.{Requests}
@@ -95,12 +96,18 @@ majorPart temperatures first second =
 abbrev pub withSum : List ℕ → List ℕ
 withSum l = l ++ inTwo (sumOf l)
 
--- the record of the cycle n, which is below 65,536 and so the wire cycle, of the right kind; with these temperatures, where it is major
+-- a record of the cycle n, which is below 65,536 and so the wire cycle, of either kind
+abbrev pub minorAt : ℕ → ℕ → Said → Said → List ℕ
+minorAt n path first second = withSum (0x52 ∷ 0x4D ∷ commonPart n path first second)
+
+abbrev pub majorAt : List ℕ → ℕ → ℕ → Said → Said → List ℕ
+majorAt temperatures n path first second =
+    withSum (0x52 ∷ 0x4A ∷ commonPart n path first second ++ majorPart temperatures first second)
+
+-- of the right kind; with these temperatures, where it is major
 abbrev pub recordBytesAt : List ℕ → ℕ → ℕ → Said → Said → List ℕ
 recordBytesAt temperatures n path first second =
-    withSum
-    (cond (isMajor n) (0x52 ∷ 0x4A ∷ commonPart n path first second ++ majorPart temperatures first second)
-    (0x52 ∷ 0x4D ∷ commonPart n path first second))
+    cond (isMajor n) (majorAt temperatures n path first second) (minorAt n path first second)
 
 -- all words 64
 abbrev pub recordBytes : ℕ → ℕ → Said → Said → List ℕ
@@ -124,6 +131,7 @@ shownBytes x = inFour (x .fail) ++ (x .close ∷ [])
 abbrev pub atBoth : ℕ → ℕ → Said → Said → Shown → Shown → Handed
 atBoth n path first second one other = record {
   bytes = recordBytes n path first second;
+  answer = Taken;
   report = 0x52 ∷ 0x52 ∷ 0x00 ∷ inFour n ++ shownBytes one ++ shownBytes other ++ replicate 10 0x00 ++ replicate 7 0x00;
 }
 

@@ -25,15 +25,16 @@ pub record Exchange : Type 0 where
   pub given : Record
   pub report : List ℕ
 
--- the bytes of one whole record, and the bytes of the report that it must get
+-- the bytes of one whole record, the answer that it must get, and the bytes of the report
 pub record Handed : Type 0 where
   pub bytes : List ℕ
+  pub answer : Answer
   pub report : List ℕ
 
 pub data Night : Type 0 where
   -- over a map: records, one after the other, and the report of each
   stepping : List Masks → List Exchange → Night
-  -- over a map: the bytes of records, each handed to one call, and the report that the call writes
+  -- over a map: the bytes of records, each handed to one call, and what the call answers and writes
   feeding : List Masks → List Handed → Night
 
 -- what the hall gives back to records, one after the other
@@ -109,12 +110,12 @@ pub record Fed : Type 0 where
 abbrev pub fed : List Masks → List (List ℕ) → Fed
 fed masks l = record { start = (startedOver masks) .answer; seen = calls ((startedOver masks) .monitor) l }
 
--- the map is accepted; each call takes its record, uses all of its bytes and holds none of them after it, and writes the report
-abbrev pub takesAll : Handed → OneCall
-takesAll x = record { answer = Taken; used = length (x .bytes); held = 0; outbox = x .report }
+-- the map is accepted; each call gives its record the answer, uses all of its bytes and holds none of them after it, and writes the report
+abbrev pub answersAll : Handed → OneCall
+answersAll x = record { answer = x .answer; used = length (x .bytes); held = 0; outbox = x .report }
 
 abbrev pub statedFed : List Handed → Fed
-statedFed l = record { start = Taken; seen = map takesAll l }
+statedFed l = record { start = Taken; seen = map answersAll l }
 
 abbrev pub Holds : Night → Type 0
 Holds (stepping masks l) = seen masks (map (λ e. e .given) l) ≡ stated masks l

@@ -6,13 +6,15 @@ use Prim.Native.Nat.{ℕ}
 use lib.Dec.{ltb}
 use lib.ListN.{replicate}
 use Rattle.cycle.specs.Records.{minor}
+use Rattle.cycle.specs.declared.answer.Answer.the-variants.{Taken}
 use Rattle.cycle.specs.declared.values.Quantities.{Quantities}
-use Rattle.promises.specs.NightRecords.{nightMap, sampleWith, quietSample, quietTemperatures, quietQuantities}
+use Rattle.promises.specs.NightRecords.{nightMap, sampleWith, quietSample, quietTemperatures}
 use Rattle.promises.specs.NightRecords.{minorWith, recordWith, recordOfSample, atMajors, keeping}
 use Rattle.promises.specs.NightHolds.{Exchange, Night, stepping, feeding, reportWith, reportOfString, since, cycles}
 use Rattle.promises.specs.NightsOfLeaks.{temperatureNights, frozenNights}
 use Rattle.promises.specs.NightsOfJets.{jetNights}
 use Rattle.promises.specs.NightsOfRequests.{requestNights}
+use Rattle.promises.specs.NightsOfBothWays.{bothWaysNights}
 use Rattle.promises.specs.NightsOfManifolds.{manifoldNights}
 use Rattle.promises.specs.NightsOfPaths.{pathNights}
 use Rattle.promises.specs.NightsOfLostValves.{lostValveNights}
@@ -26,6 +28,7 @@ firstRecord =
     feeding nightMap
     (record {
       bytes = 0x52 ∷ 0x4D ∷ 0x00 ∷ 0x01 ∷ 0x00 ∷ fourTimes (replicate 12 0x00 ++ (0x0F ∷ [])) ++ (0x00 ∷ 0xDC ∷ []);
+      answer = Taken;
       report = 0x52 ∷ 0x52 ∷ 0x00 ∷ 0x00 ∷ 0x00 ∷ 0x00 ∷ 0x01 ∷ replicate 27 0x00;
     }
     ∷ [])
@@ -118,9 +121,10 @@ quantitiesBalance = stepping nightMap (map weighing (cycles 1 50))
 unfoldable pub starredNights : List Night
 starredNights = firstRecord ∷ failsOff ∷ failsOffAfterGap ∷ failsOn ∷ failsOnAfterGap ∷ valveCloses ∷ wireWraps ∷ quantitiesBalance ∷ []
 
--- the single list: those that 01 marks, as 02 amends them; those that pin each step where no law does; and the one of 02, order 3, from
--- bytes to the close bit
+-- the single list: those that 01 marks, as 02 amends them; those that pin each step where no law does; and those of 02, order 3, from
+-- bytes to the close bit, and order 4
 unfoldable pub nights : List Night
 nights =
     starredNights
-    ++ (temperatureNights ++ (jetNights ++ (requestNights ++ (manifoldNights ++ (pathNights ++ (lostValveNights ++ frozenNights))))))
+    ++ (temperatureNights
+    ++ (jetNights ++ (requestNights ++ (manifoldNights ++ (pathNights ++ (lostValveNights ++ (frozenNights ++ bothWaysNights)))))))

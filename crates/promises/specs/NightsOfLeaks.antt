@@ -3,6 +3,7 @@
 use mathlib.Core.List.{List, [], _∷_, _++_, map}
 use Prim.Native.Nat.{ℕ}
 use lib.ListN.{replicate}
+use Rattle.cycle.specs.declared.answer.Answer.the-variants.{Taken}
 use Rattle.cycle.specs.declared.values.Temperatures.{Temperatures}
 use Rattle.feed.specs.Bytes.{inTwo}
 use Rattle.promises.specs.Instance.{warmWords}
@@ -38,6 +39,7 @@ frozenWords = warmWords 2 ++ inTwo 65535 ++ inTwo 65535 ++ warmWords 252
 abbrev pub frozenAt : ℕ → Handed
 frozenAt n = record {
   bytes = recordBytesAt frozenWords n 0x00 quiet quiet;
+  answer = Taken;
   report = reportOfString 0 n (since 50 0x00000002 n) (since 75 0x01 n);
 }
 

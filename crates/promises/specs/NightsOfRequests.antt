@@ -1,9 +1,9 @@
--- Nights that pin steps 3 and 5 of 01, "One cycle of a string": re-enables in force, and requests one way and both ways. Map: the nights'
--- own. A line: cycle, path byte, what string 0 says, and its fail word and close byte in the report. Assumes nothing.
+-- Nights that pin steps 3 and 5 of 01, "One cycle of a string": re-enables in force, and requests. Map: the nights' own. A line: cycle,
+-- path byte, what string 0 says, and its fail word and close byte in the report. Assumes nothing.
 use mathlib.Core.List.{List, [], _∷_}
 use Rattle.promises.specs.NightRecords.{nightMap}
 use Rattle.promises.specs.NightHolds.{Night, feeding}
-use Rattle.promises.specs.NightBytes.{at, quiet, commanding, valves, requesting, commandingAt, requestingAt, drivingAt}
+use Rattle.promises.specs.NightBytes.{at, quiet, commanding, requesting, commandingAt, drivingAt}
 
 -- 3. "Three slots shift; .. Fail gains the jets that stand in all three, then loses every jet whose re-enable is in force." Jets 0 and 1
 -- are commanded without pressure from 26 on, and jet 0 is re-enabled: jet 1 alone fails at 28. The valve closes at 29, which ends the
@@ -49,19 +49,5 @@ inhibitEndsReenable =
     ∷ at 125 0x00 (drivingAt 0x0F 0x00000001 0x00000000 0x00000000) 0x00000000 0x01
     ∷ [])
 
--- 5. "A jet named both ways is not changed": at 50, jet 0 with nothing in force, jet 1 inhibited and jet 2 re-enabled, all three. The valve
--- has been closed since 24. When it opens at 51 the saved set, all four jets, leaves the fail word: jet 1 alone is failed, by its
--- inhibit. All three are commanded without pressure from 51 on: jet 0 fails at 53, jet 2 does not
-abbrev pub requestsBothWays : Night
-requestsBothWays =
-    feeding nightMap
-    (at 24 0x00 (valves 0x0E) 0x0000000F 0x00
-    ∷ at 25 0x00 (requestingAt 0x0E 0x00000002 0x00000004) 0x0000000B 0x00
-    ∷ at 50 0x00 (requestingAt 0x0E 0x00000007 0x00000007) 0x0000000B 0x00
-    ∷ at 51 0x00 (commanding 0x00000007) 0x00000002 0x00
-    ∷ at 52 0x00 (commanding 0x00000007) 0x00000002 0x00
-    ∷ at 53 0x00 (commanding 0x00000007) 0x00000003 0x00
-    ∷ [])
-
 unfoldable pub requestNights : List Night
-requestNights = reenableAtOffFailure ∷ requestsOneWay ∷ inhibitEndsReenable ∷ requestsBothWays ∷ []
+requestNights = reenableAtOffFailure ∷ requestsOneWay ∷ inhibitEndsReenable ∷ []

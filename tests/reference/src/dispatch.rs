@@ -7,7 +7,7 @@ use crate::random::Random;
 use crate::record::{Record, MAJOR, MINOR};
 use crate::report::Report;
 use crate::request::Request;
-use crate::world::masks;
+use crate::world::{masks, name_both_ways, union};
 
 #[derive(Clone, Debug)]
 pub struct Dispatch {
@@ -18,23 +18,25 @@ pub struct Dispatch {
 
 impl Dispatch {
     /// Records of rising cycles and the right kind, all to be taken; between them now and then one
-    /// sent a short while before, or one of the wrong kind.
+    /// sent a short while before, one of the wrong kind, or majors that name jets both ways, whose
+    /// cycle is then sent again without that, or left out.
     pub fn of(seed: u64, records: usize) -> Dispatch {
         // Far from the seeds of feeds, scripts, halls and requests.
         let mut random = Random(0x0D15_0000_0000 + seed);
         let masks = masks(&mut random);
-        let mut night = Night::after(0, Random(random.number()));
+        let mapped = masks.map(union);
+        let mut night = Night::after(0, &masks, Random(random.number()));
         let mut sent: Vec<Record> = Vec::new();
         while sent.len() < records {
-            let next = night.next_record();
+            let next = night.next_records();
             if random.one_in(40) {
                 let recent = sent.iter().nth_back(random.index(10)).cloned();
                 sent.extend(recent);
             }
             if random.one_in(60) {
-                sent.push(of_other_kind(&next));
+                sent.extend(next.last().map(|good| of_other_kind(good, mapped, &mut random)));
             }
-            sent.push(next);
+            sent.extend(next);
         }
         let requests = sent.into_iter().map(|record| roomy(record, &mut random)).collect();
         Dispatch { masks, requests, random }
@@ -73,9 +75,14 @@ impl Dispatch {
     }
 }
 
-fn of_other_kind(record: &Record) -> Record {
+/// Half the time it names jets both ways too, if it is a major one.
+fn of_other_kind(record: &Record, mapped: [u32; 4], random: &mut Random) -> Record {
     let other = Record::quiet(u64::from(record.major.is_some()));
-    Record { major: other.major, ..record.clone() }
+    let mut other = Record { major: other.major, ..record.clone() };
+    if random.one_in(2) {
+        name_both_ways(&mut other, mapped, random);
+    }
+    other
 }
 
 /// A request that must be written, often with room behind the record.

@@ -2,6 +2,8 @@
 
 use crate::hall::{Masks, NOTHING_SETTLED, TAKEN};
 use crate::monitor::Monitor;
+use crate::reader::look;
+use crate::record::Record;
 use crate::report::REPORT_LENGTH;
 
 pub const MASKS_LENGTH: usize = 64;
@@ -43,4 +45,17 @@ pub fn run(input: &[u8]) -> Vec<u8> {
         }
     }
     reports
+}
+
+/// The masks of the program's input, and the records that settle in its feed, whatever they are answered.
+pub fn records(input: &[u8]) -> (Masks, Vec<Record>) {
+    let (masks, feed) = input.split_first_chunk().expect("masks");
+    let (mut held, mut records) = (Vec::new(), Vec::new());
+    for byte in feed {
+        held.push(*byte);
+        while let Some(record) = look(&mut held) {
+            records.push(record);
+        }
+    }
+    (masks_from(masks), records)
 }

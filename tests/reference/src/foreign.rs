@@ -2,16 +2,18 @@
 //! bits of jets in no mask, valves and close words with high bits, any n, any banks. Each with a few
 //! calls whose records are made to meet what the hall has; and how often each case was met.
 
-use crate::hall::{overlap, Hall, OUTBOX_SHORT, TAKEN};
+use crate::both_ways_cases::BothWaysCases;
+use crate::hall::{overlap, Hall, BOTH_WAYS, NOTHING_SETTLED, OUTBOX_SHORT, TAKEN};
 use crate::jet::{bit, leaks, Jet};
 use crate::jet_string::JetString;
 use crate::leak_cases::LeakCases;
 use crate::monitor::{Monitor, MOST_HELD, STORE_LENGTH};
 use crate::random::Random;
+use crate::reader::look;
 use crate::record::{Record, StringMajor, StringWords};
 use crate::script::{call, state, WHOLE_HALL};
 use crate::state::{hall_from, masks_of, HALL_LENGTH};
-use crate::world::{masks, quantities, telling_leaks, temperatures};
+use crate::world::{masks, name_both_ways, name_one_way, quantities, telling_leaks, temperatures, union};
 
 /// How often each case was met. Strings, manifolds and jets are counted at taken records whose path
 /// bit is clear, unless said otherwise.
@@ -23,6 +25,7 @@ pub struct Cases {
     pub with_a_claim_above_614: u64,
     pub calls: u64,
     pub answers_0_to_5: [u64; 6],
+    pub answers_7: u64,
     pub nothing_settled: u64,
     pub majors_taken: u64,
     pub over_a_gap: u64,
@@ -43,7 +46,6 @@ pub struct Cases {
     pub failed_off: u64,
     pub inhibited: u64,
     pub re_enabled: u64,
-    pub named_both_ways: u64,
     /// Requests for jets in no mask.
     pub named_in_vain: u64,
     pub leaking: u64,
@@ -52,16 +54,18 @@ pub struct Cases {
 }
 
 impl Cases {
-    /// One call: its answer, the hall before it, the record that was sent, the hall after it.
-    fn add(&mut self, answer: u8, before: &Hall, record: &Record, after: &Hall) {
+    /// One call's answer.
+    fn add(&mut self, answer: u8) {
         self.calls += 1;
-        match self.answers_0_to_5.get_mut(usize::from(answer)) {
-            Some(count) => *count += 1,
-            None => self.nothing_settled += 1,
+        match answer {
+            BOTH_WAYS => self.answers_7 += 1,
+            NOTHING_SETTLED => self.nothing_settled += 1,
+            _ => self.answers_0_to_5[usize::from(answer)] += 1,
         }
-        if answer != TAKEN {
-            return;
-        }
+    }
+
+    /// The hall before a record that is taken, the record, and the hall after it.
+    fn add_taken(&mut self, before: &Hall, record: &Record, after: &Hall) {
         self.majors_taken += u64::from(record.major.is_some());
         self.over_a_gap += u64::from(after.n > before.n + 1);
         self.over_a_missed_major += u64::from((after.n - 1) / 25 > before.n / 25);
@@ -118,7 +122,7 @@ impl Cases {
                     (false, _, _) => &mut self.named_in_vain,
                     (true, true, false) => &mut self.inhibited,
                     (true, false, true) => &mut self.re_enabled,
-                    (true, true, true) => &mut self.named_both_ways,
+                    (true, true, true) => unreachable!("the record would not be taken"),
                 };
             *place += 1;
         }
@@ -140,15 +144,21 @@ fn has_bits_in_no_mask(jet: &Jet) -> bool {
 }
 
 /// The script of a seed: a hall and one to three calls.
-pub fn script(seed: u64, cases: &mut Cases, leak_cases: &mut LeakCases) -> Vec<u8> {
+pub fn script(
+    seed: u64,
+    cases: &mut Cases,
+    leak_cases: &mut LeakCases,
+    both_ways_cases: &mut BothWaysCases,
+) -> Vec<u8> {
     // Far from the seeds of feeds and scripts.
     let mut random = Random(0x4A11_0000_0000 + seed);
     let hall = hall(&mut random);
     let mut monitor = Monitor { hall: hall_from(&hall), held: 0, store: [0; STORE_LENGTH] };
     cases.halls += 1;
     cases.with_overlapping_masks += u64::from(overlap(&masks_of(&monitor.hall)));
+    both_ways_cases.begin();
 
-    let (mut record, mut piece) = next_piece(&monitor.hall, &mut random);
+    let mut piece = next_piece(&monitor.hall, &mut random);
     let (held, store) = held(&mut piece, &mut random, cases);
     monitor.hand_in(monitor.hall.n, held, store);
     let calls = 1 + random.below(3) as u16;
@@ -158,16 +168,24 @@ pub fn script(seed: u64, cases: &mut Cases, leak_cases: &mut LeakCases) -> Vec<u
         let length = random.pick(&[34, 34, 34, 34, 34, 34, 34, 40, 33, 0]);
         let mut outbox = random.bytes(length);
         script.extend(call(&piece, &outbox));
+        let settled = look(&mut [monitor.take_held(), piece.clone()].concat());
         let before = monitor.hall.clone();
         let (answer, _) = monitor.call(&piece, &mut outbox);
-        cases.add(answer, &before, &record, &monitor.hall);
-        if answer == TAKEN {
-            leak_cases.add_call(&record, &monitor.hall);
+        cases.add(answer);
+        if let Some(record) = &settled {
+            both_ways_cases.add(answer, &before, record);
+            if answer == TAKEN {
+                cases.add_taken(&before, record, &monitor.hall);
+                leak_cases.add_call(record, &monitor.hall);
+            }
         }
-        // Where the outbox was short, the caller tries again.
-        if answer != OUTBOX_SHORT {
-            (record, piece) = next_piece(&monitor.hall, &mut random);
-        }
+        piece = match (answer, settled) {
+            // The caller tries again, ..
+            (OUTBOX_SHORT, _) => piece,
+            // .. now and then also where it named jets both ways.
+            (BOTH_WAYS, Some(record)) if random.one_in(2) => one_way(record, &before, &mut random).bytes(),
+            _ => next_piece(&monitor.hall, &mut random),
+        };
     }
     script
 }
@@ -243,15 +261,14 @@ fn flag(random: &mut Random) -> u8 {
 }
 
 /// A record for the hall, now and then with junk before it, or broken off.
-fn next_piece(hall: &Hall, random: &mut Random) -> (Record, Vec<u8>) {
+fn next_piece(hall: &Hall, random: &mut Random) -> Vec<u8> {
     let length = random.index(30);
     let mut piece = if random.one_in(8) { random.bytes(length) } else { Vec::new() };
-    let record = record(hall, random);
-    piece.extend(record.bytes());
+    piece.extend(record(hall, random).bytes());
     if random.one_in(25) {
         piece.truncate(random.index(piece.len()));
     }
-    (record, piece)
+    piece
 }
 
 /// A claim and a store. Bytes that are held are taken from the front of the piece.
@@ -275,15 +292,23 @@ fn held(piece: &mut Vec<u8>, random: &mut Random, cases: &mut Cases) -> (u16, [u
     }
 }
 
-/// Mostly a record that is taken, of the right kind for the hall's n and with words that meet the hall's.
+/// Mostly a record that is taken, of the right kind for the hall's n and with words that meet the hall's. One
+/// major in four names jets both ways.
 fn record(hall: &Hall, random: &mut Random) -> Record {
     let n = u64::from(hall.n);
     let to_major = 25 - n % 25;
     let short = 2 + random.below(30);
     let far = 1 + random.below(32_767);
+    let far_major = to_major + far / 26 * 25;
     let stale = 32_768 + random.below(32_768);
-    let cycle = n + random
-        .pick(&[1, 1, 1, 1, 1, 1, 1, to_major, to_major, to_major, short, short, far, 32_767, 0, stale]);
+    let soon = random.pick(&[1, 1, 1, 1, 1, 1, 1, to_major, to_major, to_major, short, short]);
+    let late = random.pick(&[far, far_major, 32_767]);
+    let cycle = n + match random.below(14) {
+        0 => 0,
+        1 => stale,
+        2..=4 => late,
+        _ => soon,
+    };
     let kind = if random.one_in(16) { u64::from(cycle.is_multiple_of(25)) } else { cycle };
     let mut record = Record::quiet(kind);
     record.wire = cycle as u16;
@@ -298,6 +323,22 @@ fn record(hall: &Hall, random: &mut Random) -> Record {
     }
     if let Some(major) = &mut record.major {
         major.quantities = [(); 3].map(|_| quantities(random));
+    }
+    if random.one_in(4) {
+        name_both_ways(&mut record, mapped(hall), random);
+    }
+    record
+}
+
+fn mapped(hall: &Hall) -> [u32; 4] {
+    masks_of(hall).map(union)
+}
+
+/// The record with one request for each of the hall's jets at most.
+fn one_way(mut record: Record, hall: &Hall, random: &mut Random) -> Record {
+    let strings = record.major.iter_mut().flat_map(|major| &mut major.strings);
+    for (words, mapped) in strings.zip(mapped(hall)) {
+        name_one_way(words, mapped, random);
     }
     record
 }
@@ -330,8 +371,11 @@ fn string_words(string: &JetString, words: &mut Words, random: &mut Random) -> S
 
 fn string_major(words: &mut Words, random: &mut Random) -> StringMajor {
     // The mapped jets are the first of the known words.
-    let telling = telling_leaks(words.0[0], random);
+    let mapped = words.0[0];
+    let telling = telling_leaks(mapped, random);
     let leaking = if random.one_in(4) { random.pick(&telling) } else { words.next(random) };
     let temperatures = temperatures(leaking, random);
-    StringMajor { temperatures, inhibit: words.next(random), re_enable: words.next(random) }
+    let mut major = StringMajor { temperatures, inhibit: words.next(random), re_enable: words.next(random) };
+    name_one_way(&mut major, mapped, random);
+    major
 }

@@ -5,7 +5,7 @@ use crate::feed::{masks_bytes, MASKS_LENGTH};
 use crate::hall::Masks;
 use crate::random::Random;
 use crate::record::{sum, Record, MAJOR, MAJOR_LENGTH, MARK, MINOR, MINOR_LENGTH};
-use crate::world::{masks, telling_leaks, union, Chances, World};
+use crate::world::{masks, name_both_ways, telling_leaks, Chances, World};
 
 #[derive(Clone, Debug)]
 pub struct Night {
@@ -28,9 +28,13 @@ pub fn input(seed: u64, size: usize) -> (Vec<u8>, u64) {
     let broken_off = if random.one_in(3) { random.index(700) } else { 0 };
     let begins_late = random.one_in(3);
     let begins_with_leaks = random.one_in(2);
-    let mut night = Night::after(0, random);
+    let begins_both_ways = random.one_in(4);
+    let mut night = Night::after(0, &masks, random);
     if begins_with_leaks {
-        bytes.extend(night.leaks(&masks));
+        bytes.extend(night.leaks());
+    }
+    if begins_both_ways {
+        bytes.extend(night.third_leak_both_ways());
     }
     if begins_late {
         bytes.extend(night.travel());
@@ -44,20 +48,38 @@ pub fn input(seed: u64, size: usize) -> (Vec<u8>, u64) {
 
 impl Night {
     /// A night that goes on from cycle `n`.
-    pub fn after(n: u32, mut random: Random) -> Night {
+    pub fn after(n: u32, masks: &Masks, mut random: Random) -> Night {
         let chances = Chances::drawn(&mut random);
         let last = Record::quiet(n.into()).bytes();
-        Night { random, chances, world: World::default(), cycle: n.into(), last, damaged: 0 }
+        Night { random, chances, world: World::over(masks), cycle: n.into(), last, damaged: 0 }
     }
 
     /// Nothing but majors of an idle hall. Leaks last for two of them, so that jets fail.
-    fn leaks(&mut self, masks: &Masks) -> Vec<u8> {
+    fn leaks(&mut self) -> Vec<u8> {
         let mut feed = Vec::new();
-        let strings = masks.map(|masks| telling_leaks(union(masks), &mut self.random));
+        let strings = self.world.mapped.map(|mapped| telling_leaks(mapped, &mut self.random));
         for turn in 0..4 {
             self.world.leak(strings.map(|leaks| leaks[turn]));
             feed.extend(self.good(self.cycle + 25));
             feed.extend(self.good(self.cycle + 25));
+        }
+        self.world.leak([0; 4]);
+        feed
+    }
+
+    /// Majors of a hall in which jets of one string leak. The third, which would close manifolds, names jets
+    /// both ways: they close when its cycle is sent again, or by three majors more where it is missed.
+    fn third_leak_both_ways(&mut self) -> Vec<u8> {
+        let mut feed = Vec::new();
+        let leaking = self.random.index(4);
+        let mut strings = [0; 4];
+        strings[leaking] = telling_leaks(self.world.mapped[leaking], &mut self.random)[3];
+        self.world.leak(strings);
+        feed.extend(self.good(self.cycle + 25));
+        feed.extend(self.good(self.cycle + 25));
+        feed.extend(self.both_ways(self.cycle + 25).iter().flat_map(Record::bytes));
+        for _ in 0..3 {
+            feed.extend(self.good(self.cycle + 25 - self.cycle % 25));
         }
         self.world.leak([0; 4]);
         feed
@@ -89,16 +111,23 @@ impl Night {
                 _ => self.damage(),
             });
         }
-        let next = self.next_cycle();
-        feed.extend(self.good(next));
+        feed.extend(self.up_to_good().iter().flat_map(Record::bytes));
         feed
     }
 
-    /// The values of the next good record, for a line that does nothing to it.
-    pub fn next_record(&mut self) -> Record {
+    /// The values of the next good record, and of those before it that name jets both ways, for a line that
+    /// does nothing to them.
+    pub fn next_records(&mut self) -> Vec<Record> {
         self.world.pass(&self.chances, &mut self.random);
-        self.cycle = self.next_cycle();
-        self.record(self.cycle)
+        self.up_to_good()
+    }
+
+    fn up_to_good(&mut self) -> Vec<Record> {
+        let next = self.next_cycle();
+        match next.is_multiple_of(25) && self.random.one_in(self.chances.both_ways) {
+            true => self.both_ways(next),
+            false => vec![self.good_record(next)],
+        }
     }
 
     fn next_cycle(&mut self) -> u64 {
@@ -120,27 +149,61 @@ impl Night {
     }
 
     fn good(&mut self, cycle: u64) -> Vec<u8> {
-        self.cycle = cycle;
-        self.last = self.record(cycle).bytes();
-        self.last.clone()
+        self.good_record(cycle).bytes()
     }
 
-    /// A whole record that must be refused: stale, repeated or of the wrong kind.
+    fn good_record(&mut self, cycle: u64) -> Record {
+        let record = self.record(cycle);
+        self.good_is_sent(cycle, record.bytes());
+        record
+    }
+
+    fn good_is_sent(&mut self, cycle: u64, bytes: Vec<u8>) {
+        self.cycle = cycle;
+        self.last = bytes;
+    }
+
+    /// One or two major records that name jets both ways, then a good one: of the same cycle and with the
+    /// same values but for that, or of the next cycle.
+    fn both_ways(&mut self, cycle: u64) -> Vec<Record> {
+        let good = self.record(cycle);
+        let mut records = Vec::new();
+        for _ in 0..self.random.pick(&[1, 1, 1, 2]) {
+            let mut refused = good.clone();
+            name_both_ways(&mut refused, self.world.mapped, &mut self.random);
+            records.push(refused);
+        }
+        // After the longest jump the next cycle would be stale.
+        let jumped = cycle - self.cycle == 32_767;
+        if jumped || self.random.one_in(self.chances.sent_again) {
+            self.good_is_sent(cycle, good.bytes());
+            records.push(good);
+        } else {
+            records.push(self.good_record(cycle + 1));
+        }
+        records
+    }
+
+    /// A whole record that must be refused: stale, repeated or of the wrong kind. Half of the majors name
+    /// jets both ways besides.
     fn odd(&mut self) -> Vec<u8> {
         let back = 1 + self.random.below(32_768);
         let near = 1 + self.random.below(60);
-        match self.random.below(6) {
-            0 => self.record(self.cycle + 65_536 - back).bytes(),
-            1 => self.record(self.cycle + 32_768).bytes(),
-            2 => self.record(self.cycle + 65_536 - near).bytes(),
-            3 => self.last.clone(),
-            _ => {
-                let cycle = self.cycle + near;
-                let mut record = self.record(u64::from(cycle.is_multiple_of(25)));
-                record.wire = cycle as u16;
-                record.bytes()
-            }
+        let any_kind = self.random.pick(&[0, 1, 1, 1]);
+        let (cycle, kind) = match self.random.below(7) {
+            0 => (self.cycle + 65_536 - back, any_kind),
+            1 => (self.cycle + 32_768, any_kind),
+            2 => (self.cycle + 65_536 - near, any_kind),
+            3 => (self.cycle, any_kind),
+            4 => return self.last.clone(),
+            _ => (self.cycle + near, u64::from((self.cycle + near).is_multiple_of(25))),
+        };
+        let mut record = self.record(kind);
+        record.wire = cycle as u16;
+        if self.random.one_in(2) {
+            name_both_ways(&mut record, self.world.mapped, &mut self.random);
         }
+        record.bytes()
     }
 
     /// Bytes that the reader must drop.
@@ -194,14 +257,20 @@ impl Night {
         feed
     }
 
-    /// A major record, taken or repeated, whose temperatures read as minor records, which must
-    /// not be seen.
+    /// A major record, taken, repeated or one that names jets both ways, whose temperatures read as minor
+    /// records, which must not be seen.
     fn major_that_hides_minors(&mut self) -> Vec<u8> {
         let to_major = 25 - self.cycle % 25;
-        let cycle = self.cycle + self.random.pick(&[to_major, 0]);
-        let mut bytes = self.record(0).bytes();
+        let is_refused = self.world.mapped != [0; 4] && self.random.one_in(3);
+        let ahead: &[u64] = if is_refused { &[to_major, to_major + 25, 0] } else { &[to_major, 0] };
+        let cycle = self.cycle + self.random.pick(ahead);
+        let mut record = self.record(0);
+        record.wire = cycle as u16;
+        if is_refused {
+            name_both_ways(&mut record, self.world.mapped, &mut self.random);
+        }
+        let mut bytes = record.bytes();
         bytes.truncate(MAJOR_LENGTH - 2);
-        bytes[2..4].copy_from_slice(&(cycle as u16).to_be_bytes());
         let temperatures = &mut bytes[57..57 + 512];
         for (hidden, ahead) in temperatures.chunks_exact_mut(MINOR_LENGTH).zip(1..) {
             let mut record = self.record(1);
@@ -209,8 +278,9 @@ impl Night {
             hidden.copy_from_slice(&record.bytes());
         }
         bytes.extend(sum(&bytes).to_be_bytes());
-        self.cycle = cycle;
-        self.last = bytes.clone();
+        if !is_refused {
+            self.good_is_sent(cycle, bytes.clone());
+        }
         bytes
     }
 }

@@ -10,6 +10,7 @@ pub const COUNT_ENDED: u8 = 3;
 pub const WRONG_KIND: u8 = 4;
 pub const OUTBOX_SHORT: u8 = 5;
 pub const MAP: u8 = 6;
+pub const BOTH_WAYS: u8 = 7;
 /// No answer of the table: a call that settles nothing says so.
 pub const NOTHING_SETTLED: u8 = 255;
 
@@ -58,6 +59,9 @@ impl Hall {
         if (new % 25 == 0) != record.major.is_some() {
             return WRONG_KIND;
         }
+        if self.names_both_ways(record) {
+            return BOTH_WAYS;
+        }
 
         let major_missed = (old + 1..new).any(|between| between % 25 == 0);
         let gap = Gap { cycle_missed: d > 1, major_missed };
@@ -71,6 +75,12 @@ impl Hall {
         }
         self.n = new as u32;
         TAKEN
+    }
+
+    /// A major record names a jet both ways, whatever the path bits.
+    fn names_both_ways(&self, record: &Record) -> bool {
+        let majors = record.major.iter().flat_map(|major| &major.strings);
+        self.strings.iter().zip(majors).any(|(string, major)| string.names_both_ways(major))
     }
 
     /// Once per major cycle, whatever the path bits.

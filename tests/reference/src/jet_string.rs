@@ -44,6 +44,12 @@ impl JetString {
         (self.close % 256) as u8
     }
 
+    /// The inhibit and the re-enable bit of some jet are set. Jets in no mask are ignored.
+    pub fn names_both_ways(&self, major: &StringMajor) -> bool {
+        let both = |jet: &Jet| bit(major.inhibit, jet.number) && bit(major.re_enable, jet.number);
+        self.jets.iter().any(|jet| jet.is_mapped() && both(jet))
+    }
+
     pub fn cycle(&mut self, path_failed: bool, words: &StringWords, major: Option<&StringMajor>, gap: Gap) {
         if path_failed {
             self.path_fault = true;
@@ -142,17 +148,15 @@ impl JetString {
         }
     }
 
-    /// Step 5. A jet named both ways is not changed, and requests for jets in no mask are ignored.
+    /// Step 5. Requests for jets in no mask are ignored. Of a jet named both ways, which no taken record has,
+    /// the inhibit is looked at first.
     fn requests(&mut self, major: &StringMajor) {
         for jet in self.jets.iter_mut().filter(|jet| jet.is_mapped()) {
-            let inhibit = bit(major.inhibit, jet.number);
-            let re_enable = bit(major.re_enable, jet.number);
-            if inhibit && !re_enable {
+            if bit(major.inhibit, jet.number) {
                 jet.inhibited = true;
                 jet.re_enabled = false;
                 jet.failed = true;
-            }
-            if re_enable && !inhibit {
+            } else if bit(major.re_enable, jet.number) {
                 jet.re_enabled = true;
                 jet.inhibited = false;
                 jet.failed = false;

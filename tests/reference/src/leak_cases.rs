@@ -1,11 +1,10 @@
 //! The cases that a leak test has to meet, and how often it did: in major records that are taken, string
 //! by string, where the path bit is clear.
 
-use crate::feed::masks_from;
+use crate::feed::records;
 use crate::hall::{Hall, TAKEN};
 use crate::jet::{bit, leaks, Jet};
 use crate::jet_string::JetString;
-use crate::reader::look;
 use crate::record::{Record, StringMajor};
 use crate::temperature_cases::{MistakenHalls, TemperatureCases};
 use std::{fmt, iter};
@@ -95,20 +94,15 @@ impl Leaky {
 impl LeakCases {
     /// What the program reads for a night. Its reports show the leaks by which jets fail.
     pub fn add_feed(&mut self, input: &[u8]) {
-        let (masks, feed) = input.split_first_chunk().expect("masks");
-        let masks = masks_from(masks);
+        let (masks, records) = records(input);
         let mut hall = Hall::fresh(&masks);
         let mut mistaken = MistakenHalls::fresh(&masks);
-        let mut held = Vec::new();
-        for byte in feed {
-            held.push(*byte);
-            while let Some(record) = look(&mut held) {
-                let before = record.major.is_some().then(|| hall.clone());
-                if let (TAKEN, Some(before)) = (hall.settle(&record), before) {
-                    self.add(&record, &hall, shown_by_report(before, &record, &hall));
-                }
-                mistaken.settle(&record, &hall, &mut self.temperatures);
+        for record in &records {
+            let before = record.major.is_some().then(|| hall.clone());
+            if let (TAKEN, Some(before)) = (hall.settle(record), before) {
+                self.add(record, &hall, shown_by_report(before, record, &hall));
             }
+            mistaken.settle(record, &hall, &mut self.temperatures);
         }
     }
 

@@ -16,6 +16,8 @@ pub mod report;
 pub mod state;
 pub mod writer;
 
+pub mod both_ways_cases;
+pub mod cases;
 pub mod dispatch;
 pub mod foreign;
 pub mod generate;

@@ -53,7 +53,7 @@ impl Monitor {
     }
 
     /// A claim of more than 614 bytes is read as holding none.
-    fn take_held(&self) -> Vec<u8> {
+    pub fn take_held(&self) -> Vec<u8> {
         let held = usize::from(self.held);
         self.store[..if held > MOST_HELD { 0 } else { held }].to_vec()
     }

@@ -1,59 +1,20 @@
 //! The cases that requests have to meet, and how often they did.
 
+use crate::cases::{self, only};
 use crate::record::{StringMajor, MINOR_LENGTH};
 use crate::request::{Request, LONGEST_OUTBOX};
 use crate::writer::WRITTEN;
-use std::fmt;
 
-/// A case, with a count for each of its variants.
-#[derive(Clone, Debug)]
-struct Case {
-    name: &'static str,
-    met: Vec<u64>,
-    variants: fn(&Request) -> Vec<usize>,
-}
-
-#[derive(Clone, Debug)]
-pub struct Cases(Vec<Case>);
+pub type Cases = cases::Cases<Request>;
 
 impl Default for Cases {
     fn default() -> Cases {
-        let case = |(name, number, variants): Named| {
-            let met = vec![0; number];
-            Case { name, met, variants }
-        };
-        Cases(CASES.map(case).to_vec())
+        Cases::of(CASES)
     }
 }
-
-impl Cases {
-    pub fn add(&mut self, request: &Request) {
-        for case in &mut self.0 {
-            for variant in (case.variants)(request) {
-                case.met[variant] += 1;
-            }
-        }
-    }
-
-    /// Demands that every variant of every case was met that often.
-    pub fn each_met(&self, least: u64) -> Result<(), String> {
-        match self.0.iter().find(|case| case.met.iter().any(|met| *met < least)) {
-            None => Ok(()),
-            Some(case) => Err(format!("not met {least} times: {}: {:?}", case.name, case.met)),
-        }
-    }
-}
-
-impl fmt::Display for Cases {
-    fn fmt(&self, lines: &mut fmt::Formatter) -> fmt::Result {
-        self.0.iter().try_for_each(|case| writeln!(lines, "{}: {:?}", case.name, case.met))
-    }
-}
-
-type Named = (&'static str, usize, fn(&Request) -> Vec<usize>);
 
 /// "Alone" is without any other fault. Minors stand before majors, but where only majors count.
-const CASES: [Named; 14] = [
+const CASES: [cases::Named<Request>; 14] = [
     ("answers 0, 1, 3; 0, 1, 2, 3", 7, answer),
     ("faults together: reserved bit +1, short outbox +2; quantity +2, short outbox +4", 12, faults),
     ("each reserved bit alone, path and valves of each string", 40, reserved_bit_alone),
@@ -103,11 +64,6 @@ fn which(quantities: &[u16], holds: impl Fn(u16) -> bool) -> Vec<usize> {
 
 fn large_quantities(request: &Request) -> Vec<usize> {
     which(&quantities(request), |quantity| quantity > 1_000)
-}
-
-/// A variant if it holds.
-fn only(holds: bool, variant: usize) -> Vec<usize> {
-    holds.then_some(variant).into_iter().collect()
 }
 
 fn answer(request: &Request) -> Vec<usize> {

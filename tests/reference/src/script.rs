@@ -121,7 +121,7 @@ fn script(random: &mut Random) -> Vec<u8> {
     let near_end = u32::MAX - random.below(60) as u32;
     let any = random.word();
     let n = random.pick(&[0, 0, 24, 65_530, near_end, near_end, u32::MAX, any]);
-    let mut night = Night::after(n, Random(random.number()));
+    let mut night = Night::after(n, &masks, Random(random.number()));
     let mut feed = Vec::new();
     while feed.len() < 30_000 {
         feed.extend(night.step());

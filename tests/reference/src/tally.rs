@@ -1,6 +1,6 @@
 //! Figures on the feeds that were compared, so that one can see what they tried.
 
-use crate::hall::TAKEN;
+use crate::hall::{BOTH_WAYS, TAKEN};
 use crate::report::Report;
 
 #[derive(Clone, Debug, Default)]
@@ -10,6 +10,7 @@ pub struct Tally {
     pub records: u64,
     pub taken: u64,
     pub refused_with_1_to_4: [u64; 4],
+    pub refused_with_7: u64,
     pub damaged_spots: u64,
     pub wire_wraps: u64,
     pub feeds_with_failed_jet: u64,
@@ -26,6 +27,7 @@ impl Tally {
         for report in &reports {
             match report.answer {
                 TAKEN => self.taken += 1,
+                BOTH_WAYS => self.refused_with_7 += 1,
                 answer => self.refused_with_1_to_4[usize::from(answer) - 1] += 1,
             }
         }

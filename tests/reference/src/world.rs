@@ -4,7 +4,7 @@
 use crate::hall::Masks;
 use crate::jet::bit;
 use crate::random::Random;
-use crate::record::{Major, Record};
+use crate::record::{Major, Record, StringMajor};
 
 /// Which words of a jet leak, fuel then oxidizer.
 const NEITHER: [bool; 2] = [false, false];
@@ -22,6 +22,10 @@ pub struct Chances {
     valves: u64,
     paths: u64,
     requests: u64,
+    /// A major record names jets both ways.
+    pub both_ways: u64,
+    /// Its cycle is then sent again without that.
+    pub sent_again: u64,
     noise: u64,
     pub gaps: u64,
     pub jumps: u64,
@@ -36,6 +40,8 @@ impl Chances {
             valves: random.pick(&[0, 60, 400]),
             paths: random.pick(&[0, 100, 1_000]),
             requests: random.pick(&[0, 2, 6]),
+            both_ways: random.pick(&[0, 0, 0, 8, 3]),
+            sent_again: random.pick(&[0, 1, 2]),
             noise: random.pick(&[0, 0, 5, 50]),
             gaps: random.pick(&[0, 15, 100, 300]),
             jumps: random.pick(&[0, 200, 1_000]),
@@ -47,6 +53,8 @@ impl Chances {
 
 #[derive(Clone, Debug, Default)]
 pub struct World {
+    /// The jets that the map names, string by string.
+    pub mapped: [u32; 4],
     path: u8,
     strings: [StringWorld; 4],
 }
@@ -61,6 +69,11 @@ struct StringWorld {
 }
 
 impl World {
+    /// A quiet hall.
+    pub fn over(masks: &Masks) -> World {
+        World { mapped: masks.map(union), ..World::default() }
+    }
+
     /// One cycle goes by.
     pub fn pass(&mut self, chances: &Chances, random: &mut Random) {
         for (s, string) in self.strings.iter_mut().enumerate() {
@@ -77,7 +90,7 @@ impl World {
         }
     }
 
-    /// A record of the right kind for the cycle.
+    /// A record of the right kind for the cycle. Only jets in no mask are named both ways.
     pub fn record(&self, cycle: u64, chances: &Chances, random: &mut Random) -> Record {
         let mut record = Record::quiet(cycle);
         record.path = self.path;
@@ -106,12 +119,14 @@ impl World {
     }
 
     fn fill(&self, major: &mut Major, chances: &Chances, random: &mut Random) {
-        for (words, string) in major.strings.iter_mut().zip(&self.strings) {
+        for (s, string) in self.strings.iter().enumerate() {
+            let words = &mut major.strings[s];
             words.temperatures = temperatures(string.leaking, random);
             if random.one_in(chances.requests) {
                 let both = random.jet() & random.word();
                 words.inhibit = both | random.jet() | random.jet();
                 words.re_enable = both | random.jet() | random.word() & random.word() & random.word();
+                name_one_way(words, self.mapped[s], random);
             }
         }
         major.quantities = [(); 3].map(|_| quantities(random));
@@ -135,16 +150,49 @@ impl StringWorld {
     }
 }
 
+/// Leaves each of these jets one of its two requests, where it has both.
+pub fn name_one_way(words: &mut StringMajor, jets: u32, random: &mut Random) {
+    let both = words.inhibit & words.re_enable & jets;
+    let inhibited = both & random.word();
+    words.inhibit &= !both | inhibited;
+    words.re_enable &= !inhibited;
+}
+
+/// Names mapped jets of a major record both ways, often one alone and often only in strings whose path fails.
+pub fn name_both_ways(record: &mut Record, mapped: [u32; 4], random: &mut Random) {
+    let strings: Vec<usize> = (0..4).filter(|s| mapped[*s] != 0).collect();
+    let (Some(major), false) = (&mut record.major, strings.is_empty()) else {
+        return;
+    };
+    let some = random.below(16) as u8;
+    let failing = random.pick(&[0, 0, 0x0F, 0x0F, some]);
+    for _ in 0..random.pick(&[1, 1, 1, 1, 2, 6]) {
+        let s = random.pick(&strings);
+        let jets = jets(mapped[s]);
+        let (any, other) = (random.pick(&jets), random.pick(&jets));
+        let one = random.pick(&[jets[0], jets[jets.len() - 1], any, any]);
+        let named = random.pick(&[one, one, one, one, any | other, mapped[s]]);
+        major.strings[s].inhibit |= named;
+        major.strings[s].re_enable |= named;
+        record.path |= failing & 1 << s;
+    }
+}
+
 /// Leaks that tell whether each mapped jet is tested and no other: of jets in no mask, of the lowest mapped
 /// one, of the highest, of a few.
 pub fn telling_leaks(mapped: u32, random: &mut Random) -> [u32; 4] {
     let others = !mapped & random.word();
-    let jets: Vec<u32> = (0..32).map(|jet| 1 << jet).filter(|jet| mapped & jet != 0).collect();
+    let jets = jets(mapped);
     let (Some(lowest), Some(highest)) = (jets.first(), jets.last()) else {
         return [others, 0, 0, 0];
     };
     let few = (0..4).fold(0, |few, _| few | random.pick(&jets));
     [others, *lowest, *highest, few]
+}
+
+/// The jets of a word, each as its bit, lowest first.
+fn jets(word: u32) -> Vec<u32> {
+    (0..32).map(|jet| 1 << jet).filter(|jet| word & jet != 0).collect()
 }
 
 /// Temperatures by which these jets leak: all by the fuel word, by the oxidizer word, by both, or each by one.

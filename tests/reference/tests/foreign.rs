@@ -3,6 +3,7 @@
 mod common;
 
 use common::{driver_on, with, with_major, MAP};
+use reference::both_ways_cases::BothWaysCases;
 use reference::foreign::{script, Cases};
 use reference::hall::{Hall, TAKEN};
 use reference::jet::{bit, Jet};
@@ -130,7 +131,7 @@ fn a_hall_is_read_as_it_was_written() {
 fn random_halls_meet_every_case() {
     let mut cases = Cases::default();
     for seed in 0..400 {
-        script(seed, &mut cases, &mut LeakCases::default());
+        script(seed, &mut cases, &mut LeakCases::default(), &mut BothWaysCases::of_halls());
     }
     let said = format!("{cases:?}").replace(['[', ']', '}'], ",");
     assert!(!said.contains(" 0,") && !said.contains(",0,"), "{said}");

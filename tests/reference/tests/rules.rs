@@ -45,9 +45,9 @@ fn path_fault_freezes_the_string_and_recovery_brings_the_good_copy_back() {
 }
 
 #[test]
-fn jet_named_both_ways_is_not_changed() {
+fn inhibit_and_re_enable_undo_each_other() {
     let mut post = Post::over(MAP);
-    for (n, inhibit, re_enable, fail) in [(25, 3, 2, 1), (50, 0, 1, 0), (75, 3, 2, 1), (100, 1, 1, 1)] {
+    for (n, inhibit, re_enable, fail) in [(25, 3, 4, 3), (50, 4, 1, 6), (75, 1, 2, 5), (100, 0, 0, 5)] {
         let record = with_major(n, 0, |major| (major.inhibit, major.re_enable) = (inhibit, re_enable));
         assert_eq!(post.take(&record).fail[0], fail, "cycle {n}");
     }

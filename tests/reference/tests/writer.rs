@@ -3,12 +3,14 @@
 
 mod common;
 
-use common::{with, with_major};
+use common::{with, with_major, WIDE_MAP};
+use reference::hall::{BOTH_WAYS, TAKEN, WRONG_KIND};
 use reference::random::Random;
 use reference::reader::look;
 use reference::record::{Record, MAJOR_LENGTH, MINOR_LENGTH};
 use reference::request_input::request;
 use reference::writer::{write, LARGE_QUANTITY, RESERVED_BIT, SHORT_OUTBOX, WRITTEN};
+use reference::Monitor;
 
 /// Contents in which each place has its own byte, or nearly so.
 fn outbox(length: usize) -> Vec<u8> {
@@ -194,8 +196,13 @@ fn what_the_monitor_may_refuse_is_written() {
     minor_of_25.wire = 25;
     let both_ways = with_major(25, 2, |major| (major.inhibit, major.re_enable) = (6, 3));
     let no_valve_open = with(1, 0, |words| words.valves = 0);
-    for record in [major_of_1, minor_of_25, both_ways, no_valve_open] {
-        assert_eq!(written(&record, 615).0, WRITTEN, "{record:?}");
+    for (record, answer) in
+        [(major_of_1, WRONG_KIND), (minor_of_25, WRONG_KIND), (both_ways, BOTH_WAYS), (no_valve_open, TAKEN)]
+    {
+        let (said, bytes) = written(&record, length(&record));
+        assert_eq!(said, WRITTEN, "{record:?}");
+        let (_, mut monitor) = Monitor::start(WIDE_MAP);
+        assert_eq!(monitor.call(&bytes, &mut [0; 34]), (answer, bytes.len()), "{record:?}");
     }
 }
 

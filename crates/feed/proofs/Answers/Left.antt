@@ -5,13 +5,14 @@ use mathlib.Core.Logic.{_⊎_, inl, inr}
 use Prim.Native.Nat.{ℕ, _+_, _<_, _≤_}
 use lib.ListN.{length, drop}
 use Rattle.cycle.specs.Answers.{isTaken}
-use Rattle.cycle.specs.Numbers.{judged}
-use Rattle.cycle.specs.Records.{Record, majorKind, common}
-use Rattle.cycle.specs.Hall.{steppedBy, stepped}
+use Rattle.cycle.specs.Records.{Record}
+use Rattle.cycle.specs.Hall.{verdictOn, steppedBy, stepped}
+use Rattle.cycle.specs.declared.answer.Answer.{Answer}
 use Rattle.cycle.specs.declared.answer.Answer.the-variants.{Taken}
 use Rattle.cycle.specs.declared.hall.Stepped.{Stepped}
 use Rattle.cycle.specs.declared.number.Verdict.{Verdict}
-use Rattle.cycle.proofs.Judgements.{Judgement, repeats, stale, ends, wrong, follows, judged-exactly}
+use Rattle.cycle.specs.declared.number.Verdict.the-variants.{Takes, Refuses}
+use Rattle.cycle.proofs.Verdicts.{Refusal, asStale, asRepeat, asEnded, asWrong, asBothWays, verdict-refuses}
 use Rattle.feed.specs.Report.{reportOf}
 use Rattle.feed.specs.Size.{outboxNeeded, reportLength}
 use Rattle.feed.specs.Settled.{recordIn, valuesIn}
@@ -31,21 +32,26 @@ result x used held out = record {
   outbox = reportOf (x .answer) (x .hall) ++ drop reportLength out;
 }
 
+refusal-leaves : {a : Answer} → Refusal a → (m : Monitor) (piece out held : List ℕ) (used : ℕ)
+    → Leaves a m piece out (result (record { answer = a; hall = m .hall }) used held out)
+refusal-leaves asStale m piece out held used = (refl, refl)
+refusal-leaves asRepeat m piece out held used = (refl, refl)
+refusal-leaves asEnded m piece out held used = (refl, refl)
+refusal-leaves asWrong m piece out held used = (refl, refl)
+refusal-leaves asBothWays m piece out held used = (refl, refl)
+
 leaves-step : (m : Monitor) (piece out held : List ℕ) (used : ℕ) (x : Stepped) → x ≡ stepped (valuesIn (holds m ++ piece)) (m .hall)
     → Leaves (x .answer) m piece out (result x used held out)
 unfolding stepped
-leaves-step m piece out held used x e = by (judged (m .hall .n) ((common r) .wire) (majorKind r)) (judged-exactly (m .hall .n) _ _) e
+leaves-step m piece out held used x e = by (verdictOn (m .hall .n) (m .hall .masks) r) refl e
   where
     r : Record
     r = valuesIn (holds m ++ piece)
 
-    by : (v : Verdict) → Judgement (m .hall .n) ((common r) .wire) (majorKind r) v → x ≡ steppedBy v r (m .hall)
+    by : (v : Verdict) → verdictOn (m .hall .n) (m .hall .masks) r ≡ v → x ≡ steppedBy v r (m .hall)
         → Leaves (x .answer) m piece out (result x used held out)
-    by v (repeats d) q = rw q (refl, refl)
-    by v (stale d) q = rw q (refl, refl)
-    by v (ends a b d) q = rw q (refl, refl)
-    by v (wrong a b d k) q = rw q (refl, refl)
-    by v (follows a b d k) q =
+    by (Refuses a) f q = rw q (refusal-leaves (verdict-refuses (m .hall .n) (m .hall .masks) r a f) m piece out held used)
+    by (Takes next) f q =
         let n : x .hall .n ≡ m .hall .n + apart (m .hall .n) (recordIn (holds m ++ piece)) =
         ap (λ (y : Stepped). y .hall .n) e
         ∙ taken-number (m .hall) (recordIn (holds m ++ piece))

@@ -8,7 +8,7 @@ use lib.ListN.{length, take, drop, length-append, take-append-drop}
 use lib.Seq.{drop-at}
 use Rattle.cycle.specs.declared.answer.Answer.{Answer}
 use Rattle.cycle.specs.declared.answer.Answer.the-variants.{Taken, Stale, Repeat, CountEnded, WrongKind, OutboxShort, MapRefused}
-use Rattle.cycle.specs.declared.answer.Answer.the-variants.{NothingSettled}
+use Rattle.cycle.specs.declared.answer.Answer.the-variants.{BothWays, NothingSettled}
 use Rattle.feed.specs.Size.{outboxNeeded, reportLength}
 use Rattle.feed.specs.Good.{WholeRecord}
 use Rattle.feed.specs.Report.{reportOf}
@@ -153,6 +153,7 @@ module _ (m : Monitor) (piece out : List ℕ) where
   result-by WrongKind x y c p q e l k = refused-same WrongKind x y (c .1 .settled) (p (c .0)) (q (c .0)) e l k
   result-by OutboxShort x y c p q e l k = l ∙ sym k
   result-by MapRefused x y c p q e l k = absurd c
+  result-by BothWays x y c p q e l k = refused-same BothWays x y (c .1 .settled) (p (c .0)) (q (c .0)) e l k
   result-by NothingSettled x y c p q e l k =
       one-result m piece x y (p (c .0)) (q (c .0)) (l .1 ∙ sym (k .1)) e (l .0 ∙ sym (k .0)) (l .2 ∙ sym (k .2))
 

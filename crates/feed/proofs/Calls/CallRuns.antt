@@ -11,9 +11,8 @@ use Rattle.cycle.specs.Size.{stringCount, moduleCount, lastCount}
 use Rattle.cycle.specs.Answers.{isTaken}
 use Rattle.cycle.specs.Map.{FitMap, refused}
 use Rattle.cycle.specs.Banks.{noBank, noQuantities}
-use Rattle.cycle.specs.Numbers.{judged}
-use Rattle.cycle.specs.Records.{Record, minor, major, majorKind, common}
-use Rattle.cycle.specs.Hall.{freshHall, started, steppedBy, stepped}
+use Rattle.cycle.specs.Records.{Record, minor, major}
+use Rattle.cycle.specs.Hall.{freshHall, started, verdictOn, steppedBy, stepped}
 use Rattle.cycle.specs.Proper.{ProperHall}
 use Rattle.cycle.specs.Inside.Runs.{TakenRecord, bankBy}
 use Rattle.cycle.specs.declared.banks.Bank.{Bank}
@@ -24,7 +23,7 @@ use Rattle.cycle.specs.declared.number.Verdict.{Verdict}
 use Rattle.cycle.specs.declared.number.Verdict.the-variants.{Takes, Refuses}
 use Rattle.cycle.specs.declared.values.Quantities.{Quantities}
 use Rattle.cycle.proofs.Balance.{weighed-exactly}
-use Rattle.cycle.proofs.Judgements.{takes-follows}
+use Rattle.cycle.proofs.Verdicts.{verdict-follows}
 use Rattle.cycle.proofs.HallAgrees.{number-after, bank-after}
 use Rattle.cycle.proofs.Runs.{Run, run-fresh, run-step}
 use Rattle.feed.specs.Size.{mostQuantity, quantityLength, quantitiesFrom, quantitiesLength, outboxNeeded}
@@ -67,11 +66,11 @@ bank-small (major r) m b l s h =
 
 step-fits : (r : Record) (h : Hall) → ProperHall h → Small r → Fits h → Fits ((stepped r h) .hall)
 unfolding stepped
-step-fits r h p s f = by (judged (h .n) ((common r) .wire) (majorKind r)) refl
+step-fits r h p s f = by (verdictOn (h .n) (h .masks) r) refl
   where
-    by : (v : Verdict) → judged (h .n) ((common r) .wire) (majorKind r) ≡ v → Fits ((steppedBy v r h) .hall)
+    by : (v : Verdict) → verdictOn (h .n) (h .masks) r ≡ v → Fits ((steppedBy v r h) .hall)
     by (Takes next) e = record {
-      number = rw (number-after r next h) (takes-follows (h .n) ((common r) .wire) (majorKind r) next e .most);
+      number = rw (number-after r next h) (verdict-follows (h .n) (h .masks) r next e .most);
       lesser = λ m l. rw (bank-after r next h p m l) (bank-small r m (getD (h .banks) m noBank) l s (f .lesser m l));
     }
     by (Refuses a) e = f
@@ -97,6 +96,10 @@ pub record Kept (masks : List Masks) (h : Hall) (ts : List Heard) : Type 0 where
   pub run : Run masks h values
   pub fits : Fits h
 
+-- n is the number that the records taken have reached
+pub kept-number : {masks : List Masks} {h : Hall} {ts : List Heard} → Kept masks h ts → h .n ≡ reachedBy ts
+kept-number kept = kept .run .told .number ∙ reached-carried (kept .carry)
+
 -- the records heard, with the one that a call settled
 abbrev grown : Bool → List ℕ → List Heard → List Heard
 grown b r ts = cond b (record { n = reachedBy ts + apart (reachedBy ts) r; bytes = r } ∷ ts) ts
@@ -118,7 +121,7 @@ module _ (masks : List Masks) (h : Hall) (ts : List Heard) (kept : Kept masks h 
   number-next : isTaken (x .answer) ≡ true → x .hall .n ≡ reachedBy ts + apart (reachedBy ts) (recordIn l)
   number-next e =
       taken-number h (recordIn l) e
-      ∙ ap (λ (n : ℕ). n + apart n (recordIn l)) (kept .run .told .number ∙ reached-carried (kept .carry))
+      ∙ ap (λ (n : ℕ). n + apart n (recordIn l)) (kept-number kept)
 
   step-kept : (b : Bool) → isTaken (x .answer) ≡ b → Kept masks (x .hall) (grown b (recordIn l) ts)
   step-kept true e =

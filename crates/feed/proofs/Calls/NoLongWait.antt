@@ -11,7 +11,7 @@ use lib.Seq.{drop-at, take-at, drop-append-add, length-take-le}
 use Rattle.cycle.specs.Answers.{writesReport}
 use Rattle.cycle.specs.declared.answer.Answer.{Answer}
 use Rattle.cycle.specs.declared.answer.Answer.the-variants.{Taken, Stale, Repeat, CountEnded, WrongKind, OutboxShort, MapRefused}
-use Rattle.cycle.specs.declared.answer.Answer.the-variants.{NothingSettled}
+use Rattle.cycle.specs.declared.answer.Answer.the-variants.{BothWays, NothingSettled}
 use Rattle.cycle.specs.declared.hall.Hall.{Hall}
 use Rattle.cycle.specs.declared.map.Masks.{Masks}
 use Rattle.feed.specs.Size.{outboxNeeded, mostHeld}
@@ -84,6 +84,7 @@ settled-written CountEnded h room r l some c = refl
 settled-written WrongKind h room r l some c = refl
 settled-written OutboxShort h room r l some c = absurd (omega arith)
 settled-written MapRefused h room r l some c = absurd c
+settled-written BothWays h room r l some c = refl
 settled-written NothingSettled h room r l some c = absurd (omega (arith, ap length (c .1)))
 
 -- ---- what has been used

@@ -1,7 +1,7 @@
 -- The step by a record's bytes: the record at the front is whole, has its kind's length, and steps the hall by its values.
 -- Assumes nothing.
-use mathlib.Core.Path.{_≡_, refl, sym, ap, _∙_}
-use mathlib.Core.Bool.{Bool, true, false, cond}
+use mathlib.Core.Path.{_≡_, refl, sym, ap, ap₂, _∙_}
+use mathlib.Core.Bool.{Bool, true, false}
 use mathlib.Core.List.{List}
 use Prim.Native.Nat.{ℕ, _≤_}
 use native.Mathlib.Omega.{arith}
@@ -12,16 +12,16 @@ use lib.Seq.{length-take-le}
 use Rattle.bits.proofs.Yes.{and-left, and-right}
 use Rattle.cycle.specs.Answers.{writesReport}
 use Rattle.cycle.specs.Numbers.{judged}
-use Rattle.cycle.specs.Records.{Record, minor, major, majorKind, common}
-use Rattle.cycle.specs.Hall.{minorTaken, majorTaken, taken, steppedBy, stepped}
+use Rattle.cycle.specs.Records.{Record, majorKind, common}
+use Rattle.cycle.specs.Hall.{minorTaken, majorTaken, taken, recordBothWays, verdictOn, steppedBy, stepped}
 use Rattle.cycle.specs.declared.answer.Answer.{Answer}
-use Rattle.cycle.specs.declared.answer.Answer.the-variants.{Taken}
+use Rattle.cycle.specs.declared.answer.Answer.the-variants.{Taken, BothWays}
 use Rattle.cycle.specs.declared.hall.Hall.{Hall}
 use Rattle.cycle.specs.declared.hall.Stepped.{Stepped}
 use Rattle.cycle.specs.declared.number.Next.{Next}
 use Rattle.cycle.specs.declared.number.Verdict.{Verdict}
 use Rattle.cycle.specs.declared.number.Verdict.the-variants.{Takes, Refuses}
-use Rattle.cycle.proofs.Judgements.{Judgement, repeats, stale, ends, wrong, follows, judged-exactly}
+use Rattle.cycle.proofs.Verdicts.{verdict-refused, verdict-named, verdict-takes, verdict-refuses, refusal-reported}
 use Rattle.feed.specs.Size.{minorLength, majorLength, majorMark, wireAt}
 use Rattle.feed.specs.Bytes.{two}
 use Rattle.feed.specs.Format.{rowOf, lengthOf, look, settles, lengthShown}
@@ -32,6 +32,7 @@ use Rattle.feed.specs.declared.format.Kind.{Kind}
 use Rattle.feed.specs.declared.format.Kind.the-variants.{Minor, Major}
 use Rattle.feed.specs.declared.format.Look.the-variants.{Settles}
 use Rattle.feed.proofs.Records.Lengths.{shows-settles}
+use Rattle.feed.proofs.Records.Told.{wire-of, kind-of}
 use Rattle.feed.proofs.Records.Whole.{settled-sized, settled-kind}
 use Rattle.feed.proofs.Reading.InPlace.{taken-settles}
 use Rattle.feed.proofs.Records.Goods.{mark-of, settles-whole}
@@ -91,36 +92,44 @@ module _ (r : List ℕ) (h : Hall) (whole : isWhole r ≡ true) where
   abbrev isMajor : Bool
   isMajor = eqb (getD r 1 0) majorMark
 
-  pub half-refused : (a : Answer) → judged (h .n) (two r wireAt) isMajor ≡ Refuses a → steppedTo a h ≡ stepOf r h
-  unfolding valuesOf minorOf majorOf stepped
-  half-refused a e = sym (step-whole r h whole ∙ by isMajor e)
-    where
-      by : (b : Bool) → judged (h .n) (two r wireAt) b ≡ Refuses a
-          → stepped (cond b (major (majorOf r)) (minor (minorOf r))) h ≡ steppedTo a h
-      by true q = rw q
-      by false q = rw q
+  -- the verdict by the record's number, read off its bytes
+  abbrev byNumber : Verdict
+  byNumber = judged (h .n) (two r wireAt) isMajor
 
-  pub half-minor : (next : Next) → isMajor ≡ false → judged (h .n) (two r wireAt) isMajor ≡ Takes next
-      → steppedTo Taken (minorTaken (minorOf r) next h) ≡ stepOf r h
-  unfolding valuesOf minorOf stepped taken
-  half-minor next k e = sym (step-whole r h whole ∙ rw (k, rw k at e))
+  same-number : judged (h .n) ((common (valuesOf r)) .wire) (majorKind (valuesOf r)) ≡ byNumber
+  same-number = ap₂ (λ (w : ℕ) (k : Bool). judged (h .n) w k) (wire-of r) (kind-of r)
 
-  pub half-major : (next : Next) → isMajor ≡ true → judged (h .n) (two r wireAt) isMajor ≡ Takes next
-      → steppedTo Taken (majorTaken (majorOf r) (minorTaken (minorOf r) next h)) ≡ stepOf r h
-  unfolding valuesOf minorOf majorOf stepped taken
-  half-major next k e = sym (step-whole r h whole ∙ rw (k, rw k at e))
+  stepped-by : (v : Verdict) → verdictOn (h .n) (h .masks) (valuesOf r) ≡ v → steppedBy v (valuesOf r) h ≡ stepOf r h
+  unfolding stepped
+  stepped-by v e = ap (λ (x : Verdict). steppedBy x (valuesOf r) h) (sym e) ∙ sym (step-whole r h whole)
 
--- the hall answers 0 to 4, and these are reported
+  pub half-refused : (a : Answer) → byNumber ≡ Refuses a → steppedTo a h ≡ stepOf r h
+  half-refused a e = stepped-by (Refuses a) (verdict-refused (h .n) (h .masks) (valuesOf r) a (same-number ∙ e))
+
+  pub half-both-ways : (next : Next) → byNumber ≡ Takes next → recordBothWays (h .masks) (valuesOf r) ≡ true
+      → steppedTo BothWays h ≡ stepOf r h
+  half-both-ways next e b = stepped-by (Refuses BothWays) (verdict-named (h .n) (h .masks) (valuesOf r) next (same-number ∙ e) b)
+
+  module _ (next : Next) (e : byNumber ≡ Takes next) (b : recordBothWays (h .masks) (valuesOf r) ≡ false) where
+    half-taken : steppedTo Taken (taken (valuesOf r) next h) ≡ stepOf r h
+    half-taken = stepped-by (Takes next) (verdict-takes (h .n) (h .masks) (valuesOf r) next (same-number ∙ e) b)
+
+    pub half-minor : isMajor ≡ false → steppedTo Taken (minorTaken (minorOf r) next h) ≡ stepOf r h
+    unfolding valuesOf taken
+    half-minor k = rw k at half-taken
+
+    pub half-major : isMajor ≡ true → steppedTo Taken (majorTaken (majorOf r) (minorTaken (minorOf r) next h)) ≡ stepOf r h
+    unfolding valuesOf majorOf taken
+    half-major k = rw k at half-taken
+
+-- the hall answers 0 to 4 or 7, and these are reported
 pub stepped-reports : (r : Record) (h : Hall) → writesReport ((stepped r h) .answer) ≡ true
 unfolding stepped
-stepped-reports r h = by (judged (h .n) ((common r) .wire) (majorKind r)) (judged-exactly (h .n) ((common r) .wire) (majorKind r))
+stepped-reports r h = by (verdictOn (h .n) (h .masks) r) refl
   where
-    by : (v : Verdict) → Judgement (h .n) ((common r) .wire) (majorKind r) v → writesReport ((steppedBy v r h) .answer) ≡ true
-    by v (repeats a) = refl
-    by v (stale a) = refl
-    by v (ends a b d) = refl
-    by v (wrong a b d k) = refl
-    by v (follows a b d k) = refl
+    by : (v : Verdict) → verdictOn (h .n) (h .masks) r ≡ v → writesReport ((steppedBy v r h) .answer) ≡ true
+    by (Takes next) e = refl
+    by (Refuses a) e = refusal-reported (verdict-refuses (h .n) (h .masks) r a e)
 
 pub step-reports : (r : List ℕ) (h : Hall) → isWhole r ≡ true → writesReport ((stepOf r h) .answer) ≡ true
 step-reports r h e = rw (step-whole r h e) (stepped-reports (valuesOf r) h)

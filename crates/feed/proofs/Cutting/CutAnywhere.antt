@@ -15,6 +15,7 @@ use Rattle.cycle.specs.declared.map.Masks.{Masks}
 use Rattle.cycle.specs.declared.number.Verdict.{Verdict}
 use Rattle.cycle.specs.declared.number.Verdict.the-variants.{Refuses}
 use Rattle.cycle.proofs.Numbers.{judged-repeat, judged-stale}
+use Rattle.cycle.proofs.Verdicts.{verdict-refused}
 use Rattle.feed.specs.Values.{valuesOf}
 use Rattle.feed.specs.Good.{WholeRecord}
 use Rattle.feed.specs.Settled.{behindIn}
@@ -33,7 +34,7 @@ use Rattle.feed.proofs.Cutting.FeedEnds.{last-idle, finished-at-once}
 refused-step : (h : Hall) (r : Record) (a : Answer) → judged (h .n) ((common r) .wire) (majorKind r) ≡ Refuses a
     → stepped r h ≡ record { answer = a; hall = h }
 unfolding stepped
-refused-step h r a e = ap (λ (v : Verdict). steppedBy v r h) e
+refused-step h r a e = ap (λ (v : Verdict). steppedBy v r h) (verdict-refused (h .n) (h .masks) r a e)
 
 -- no step, and no report that answers 0
 abbrev Idles : Hall → Stepped → Type 0

@@ -42,7 +42,7 @@ module _ (r : List ℕ) where
   unfolding samplesOf
   sample-at s l = table-at (λ k. sampleAt r (sampleIn k)) noSample stringCount s l
 
-  requests-at : (s : ℕ) → s < stringCount → getD (requestsOf r) s noRequests ≡ requestsAt r (requestsIn s)
+  pub requests-at : (s : ℕ) → s < stringCount → getD (requestsOf r) s noRequests ≡ requestsAt r (requestsIn s)
   unfolding requestsOf
   requests-at s l = table-at (λ k. requestsAt r (requestsIn k)) noRequests stringCount s l
 

@@ -27,6 +27,14 @@ module _ (r : List ℕ) where
   pub major-told : getD r 1 0 ≡ majorMark → majorKind (valuesOf r) ≡ true
   major-told e = ap majorKind (values-major e)
 
+  pub kind-of : majorKind (valuesOf r) ≡ eqb (getD r 1 0) majorMark
+  unfolding valuesOf
+  kind-of = by (eqb (getD r 1 0) majorMark)
+    where
+      by : (b : Bool) → majorKind (cond b (major (majorOf r)) (minor (minorOf r))) ≡ b
+      by true = refl
+      by false = refl
+
   -- either kind has its wire cycle at the same place
   pub wire-of : (common (valuesOf r)) .wire ≡ two r wireAt
   unfolding valuesOf minorOf majorOf

@@ -69,7 +69,7 @@ module _ (masks : List Masks) (fit : FitMap masks) (accepted : refused stringCou
     third = subst EverThird (sym (history-carried s i (x .jet) l (x .inWord) (kept .carry))) (x .third);
   }
 
-  -- any report, also one that answers 1 to 4
+  -- any report, also one that answers 1 to 4 or 7
   pub close-shown : (c : Made) (cs : List Made) → writesReport (answerOf masks c cs) ≡ true
       → Shows masks s i c cs ↔ ThirdEver mask s i (takenRecords masks (c ∷ cs))
   close-shown c cs w =

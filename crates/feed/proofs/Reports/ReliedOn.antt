@@ -14,7 +14,7 @@ use Rattle.cycle.specs.Jets.{run}
 use Rattle.cycle.specs.Map.{masksOf, inMask, FitMap, refused}
 use Rattle.cycle.specs.declared.answer.Answer.{Answer}
 use Rattle.cycle.specs.declared.answer.Answer.the-variants.{Taken, Stale, Repeat, CountEnded, WrongKind, OutboxShort, MapRefused}
-use Rattle.cycle.specs.declared.answer.Answer.the-variants.{NothingSettled}
+use Rattle.cycle.specs.declared.answer.Answer.the-variants.{BothWays, NothingSettled}
 use Rattle.cycle.specs.declared.hall.Hall.{Hall}
 use Rattle.cycle.specs.declared.map.Masks.{Masks}
 use Rattle.cycle.proofs.Answers.{taken-only}
@@ -28,10 +28,9 @@ use Rattle.feed.specs.Call.{holds, holding, Result, call}
 use Rattle.feed.specs.Calls.{Made, monitorAfter, answerOf, reportIn, takenRecords}
 use Rattle.feed.specs.declared.call.Monitor.{Monitor}
 use Rattle.feed.proofs.Records.Lengths.{by-test}
-use Rattle.feed.proofs.Records.Carried.{reached-carried}
 use Rattle.feed.proofs.Calls.Turning.{holds-same}
 use Rattle.feed.proofs.Calls.CallReads.{call-reads}
-use Rattle.feed.proofs.Calls.CallRuns.{calls-kept}
+use Rattle.feed.proofs.Calls.CallRuns.{calls-kept, kept-number}
 use Rattle.feed.proofs.Answers.Answered.{answers-exactly}
 use Rattle.feed.proofs.Answers.Left.{call-leaves}
 use Rattle.feed.proofs.Reports.ReportsTell.{reports-tell}
@@ -56,7 +55,7 @@ module _ (masks : List Masks) (fit : FitMap masks) (accepted : refused stringCou
   pub number-shown : four (reportIn masks c cs) countAt ≡ (monitorAfter masks (c ∷ cs)) .hall .n
   number-shown =
       let kept = calls-kept masks fit accepted (c ∷ cs) in
-      reports-tell masks fit accepted c cs w .number ∙ sym (kept .run .told .number ∙ reached-carried (kept .carry))
+      reports-tell masks fit accepted c cs w .number ∙ sym (kept-number kept)
 
 -- ---- any call on any state
 
@@ -77,6 +76,7 @@ module _ (m : Monitor) (piece out : List ℕ) where
   room-for WrongKind w c = c .0
   room-for OutboxShort w c = not-both false w refl
   room-for MapRefused w c = not-both false w refl
+  room-for BothWays w c = c .0
   room-for NothingSettled w c = not-both false w refl
 
   -- the number rises by at least one on answer 0
@@ -95,6 +95,7 @@ module _ (m : Monitor) (piece out : List ℕ) where
   hall-stays WrongKind l e = l .0
   hall-stays OutboxShort l e = ap (λ (x : Result). x .outcome .monitor .hall) l
   hall-stays MapRefused l e = absurd l
+  hall-stays BothWays l e = l .0
   hall-stays NothingSettled l e = l .0
 
   rose : m .hall .n < after .hall .n → answered ≡ Taken
@@ -104,7 +105,7 @@ module _ (m : Monitor) (piece out : List ℕ) where
   pub number-rises : (answered ≡ Taken) ↔ (m .hall .n < after .hall .n)
   number-rises = (rises, rose)
 
-  -- on answers 1 to 4 the monitor is the hall before with the bytes that the call left
+  -- on answers 1 to 4 and 7 the monitor is the hall before with the bytes that the call left
   pub refused-keeps : writesReport answered ≡ true → isTaken answered ≡ false → after ≡ holding (m .hall) (holds after)
   refused-keeps w t =
       let read = call-reads m piece out (room-for answered w (answers-exactly m piece out answered .0 refl)) in

@@ -1,4 +1,4 @@
--- Demand 2: from fresh over an accepted map, every report that any call writes, also one that answers 1 to 4, shows what the rules say
+-- Demand 2: from fresh over an accepted map, every report that any call writes, also one that answers 1 to 4 or 7, shows what the rules say
 -- jet by jet for the records taken so far. Assumes nothing.
 use mathlib.Core.Path.{_≡_, refl, sym, ap, _∙_}
 use mathlib.Core.Bool.{Bool, true, false, _&&_}
@@ -44,8 +44,8 @@ use Rattle.feed.proofs.Records.Lengths.{below-or}
 use Rattle.feed.proofs.Calls.Calling.{call-called}
 use Rattle.feed.proofs.Calls.CallCases.{CallCase, none, some, call-case}
 use Rattle.feed.proofs.Answers.Fixed.{short-call}
-use Rattle.feed.proofs.Records.Carried.{reached-carried, history-carried, bank-carried}
-use Rattle.feed.proofs.Calls.CallRuns.{Kept, calls-kept}
+use Rattle.feed.proofs.Records.Carried.{history-carried, bank-carried}
+use Rattle.feed.proofs.Calls.CallRuns.{Kept, calls-kept, kept-number}
 
 -- ---- words and bytes that fit
 
@@ -115,7 +115,7 @@ module _ (masks : List Masks) (h : Hall) (ts : List Heard) (kept : Kept masks h 
     byte = report-bytes a h;
     mark = (refl, refl);
     answer = answer-at a h;
-    number = n-at a h (omega (arith, kept .fits .number)) ∙ kept .run .told .number ∙ reached-carried (kept .carry);
+    number = n-at a h (omega (arith, kept .fits .number)) ∙ kept-number kept;
     fail = λ s i j l below stands.
         fail-bit s j l
         ∙ ap (λ (b : Bool). b && bit j ((stringOf h s) .standing .fail))

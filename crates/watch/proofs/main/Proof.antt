@@ -25,7 +25,7 @@ slice-aggregate-start-from c =
 kept : (c : tie.At-match-keys2) → c .before .start-from .result .answer ≡ MapRefused → ⊥
 kept c e =
     ⊎-elim (λ w. omega arith) (⊎-elim (λ w. omega arith) (⊎-elim (λ w. omega arith) (⊎-elim (λ w. omega arith) (⊎-elim (λ w. omega arith)
-    (⊎-elim (λ w. omega arith) (λ w. omega arith)))))) (rw e at (c .match .keys2))
+    (⊎-elim (λ w. omega arith) (⊎-elim (λ w. omega arith) (λ w. omega arith))))))) (rw e at (c .match .keys2))
 
 watched-requires : tie.Need-watched-requires
 watched-requires c κs =

@@ -1,9 +1,11 @@
 //! `compare WATCH CALLS [--feeds N] [--bytes TOTAL] [--halls N]`: runs two programs over seeded input and
 //! demands every byte of their output to be the reference's.
 
+use reference::both_ways_cases::BothWaysCases;
 use reference::feed::{masks_bytes, run, MASKS_LENGTH};
 use reference::foreign::{self, Cases};
 use reference::generate::input;
+use reference::hall::{BOTH_WAYS, NOTHING_SETTLED};
 use reference::leak_cases::LeakCases;
 use reference::process::{cut, run_file, run_pieces};
 use reference::random::Random;
@@ -22,7 +24,8 @@ const HALLS: u64 = 20_000;
 const CALL_INPUTS: u64 = 500;
 const NOISES: u64 = 24;
 const HALLS_AT_ONCE: u64 = 250;
-/// How often each case of leaks must be met, in the feeds and in the halls, unless fewer are asked for.
+/// How often each case of leaks and of jets named both ways must be met, in the feeds and in the halls,
+/// unless fewer are asked for.
 const LEAST_MET: u64 = 25;
 
 fn main() -> ExitCode {
@@ -35,13 +38,15 @@ fn main() -> ExitCode {
     };
     let begin = Instant::now();
     let mut score = Score::default();
-    let (tally, leaks_of_feeds) = feeds(&watch, number, bytes, &mut score);
+    let (tally, leaks_of_feeds, both_ways_of_feeds) = feeds(&watch, number, bytes, &mut score);
     let bad_inputs = bad_inputs(&watch, &mut score);
     let answers = scripts(&calls, &mut score);
-    let (cases, leaks_of_halls) = foreign_halls(&calls, halls, &mut score);
+    let (cases, leaks_of_halls, both_ways_of_halls) = foreign_halls(&calls, halls, &mut score);
     let seconds = begin.elapsed().as_secs_f64();
     print!("leaks of feeds, by the fuel word, by the oxidizer word, by both:\n{leaks_of_feeds}");
     print!("leaks of halls:\n{leaks_of_halls}");
+    print!("jets named both ways in feeds:\n{both_ways_of_feeds}");
+    print!("jets named both ways in halls:\n{both_ways_of_halls}");
     println!("{tally:?}; {bad_inputs} inputs of noise or bad masks; {answers}; {cases:?}; {seconds:.1} s");
     score.end()
 }
@@ -62,8 +67,9 @@ fn amounts(mut options: impl Iterator<Item = String>) -> Option<(u64, u64, u64)>
 }
 
 /// Seeded nights, each whole from a file or a pipe, every third also in pieces.
-fn feeds(watch: &str, number: u64, total: u64, score: &mut Score) -> (Tally, LeakCases) {
-    let (mut tally, mut leak_cases) = (Tally::default(), LeakCases::default());
+fn feeds(watch: &str, number: u64, total: u64, score: &mut Score) -> (Tally, LeakCases, BothWaysCases) {
+    let (mut tally, mut leaks, mut both_ways) =
+        (Tally::default(), LeakCases::default(), BothWaysCases::of_feeds());
     let share = (total / number) as usize + 1;
     for seed in 0..number {
         // Short and long feeds, that come to the wanted total.
@@ -71,7 +77,8 @@ fn feeds(watch: &str, number: u64, total: u64, score: &mut Score) -> (Tally, Lea
         let (bytes, damaged) = input(seed, size);
         let reports = reports(&bytes);
         tally.add(bytes.len(), damaged, &reports);
-        leak_cases.add_feed(&bytes);
+        leaks.add_feed(&bytes);
+        both_ways.add_feed(&bytes);
         let name = format!("feed of seed {seed}, size {size}");
         if seed % 3 == 0 {
             let pieces = cut(&bytes, &mut Random(!seed));
@@ -85,9 +92,10 @@ fn feeds(watch: &str, number: u64, total: u64, score: &mut Score) -> (Tally, Lea
         score.check(&format!("{name}, whole"), same(output, "report", &reports));
     }
     if number >= FEEDS && total >= BYTES {
-        score.check("leaks of the feeds", leak_cases.each_met(LEAST_MET));
+        score.check("leaks of the feeds", leaks.each_met(LEAST_MET));
+        score.check("jets named both ways in the feeds", both_ways.each_met(LEAST_MET));
     }
-    (tally, leak_cases)
+    (tally, leaks, both_ways)
 }
 
 /// Noise, empty input, short and refused masks.
@@ -130,20 +138,23 @@ fn scripts(calls: &str, score: &mut Score) -> String {
     }
     let all: u64 = answers.iter().sum();
     format!(
-        "{CALL_INPUTS} inputs of {starts} scripts, {all} calls, answers 0 to 5 {:?}, nothing settled {}",
+        "{CALL_INPUTS} inputs of {starts} scripts, {all} calls, answers 0 to 5 {:?}, 7 {}, \
+         nothing settled {}",
         &answers[..6],
-        answers[255]
+        answers[usize::from(BOTH_WAYS)],
+        answers[usize::from(NOTHING_SETTLED)]
     )
 }
 
 /// Halls that no run reaches, many to an input. Where one differs, its input is tried hall by hall, to
 /// name it.
-fn foreign_halls(calls: &str, number: u64, score: &mut Score) -> (Cases, LeakCases) {
-    let (mut cases, mut leak_cases) = (Cases::default(), LeakCases::default());
+fn foreign_halls(calls: &str, number: u64, score: &mut Score) -> (Cases, LeakCases, BothWaysCases) {
+    let (mut cases, mut leaks, mut both_ways) =
+        (Cases::default(), LeakCases::default(), BothWaysCases::of_halls());
     let mut begin = 0;
     while begin < number {
         let end = number.min(begin + HALLS_AT_ONCE);
-        let script = |seed| foreign::script(seed, &mut cases, &mut leak_cases);
+        let script = |seed| foreign::script(seed, &mut cases, &mut leaks, &mut both_ways);
         let scripts: Vec<Vec<u8>> = (begin..end).map(script).collect();
         let all = plays(calls, scripts.concat());
         let differs = all.is_err();
@@ -156,9 +167,10 @@ fn foreign_halls(calls: &str, number: u64, score: &mut Score) -> (Cases, LeakCas
         begin = end;
     }
     if number >= HALLS {
-        score.check("leaks of the halls", leak_cases.each_met(LEAST_MET));
+        score.check("leaks of the halls", leaks.each_met(LEAST_MET));
+        score.check("jets named both ways in the halls", both_ways.each_met(LEAST_MET));
     }
-    (cases, leak_cases)
+    (cases, leaks, both_ways)
 }
 
 fn plays(calls: &str, input: Vec<u8>) -> Result<(), String> {

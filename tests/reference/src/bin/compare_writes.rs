@@ -121,6 +121,7 @@ fn written(writes: &str, requests: &[Request]) -> Result<Vec<Vec<u8>>, String> {
 fn lively(tally: &Tally) -> Result<(), String> {
     let refused = tally.records - tally.taken;
     let enough = tally.taken >= 9 * refused
+        && tally.refused_with_7 > NIGHTS
         && tally.feeds_with_failed_jet > NIGHTS / 2
         && tally.feeds_with_close_bit > NIGHTS / 3
         && tally.feeds_with_imbalance > NIGHTS / 2

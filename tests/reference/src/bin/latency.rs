@@ -180,7 +180,7 @@ fn long_run(watch: &str, records: u64) -> Outcome {
     let mut input = pair.running.input.take().expect("input is open");
     let id = pair.running.child.id();
     // With this seed everything happens that can happen on a line.
-    let mut night = Night::after(0, Random(96));
+    let mut night = Night::after(0, &MASKS, Random(490));
     let mut sent = night.clone();
     let writer = thread::spawn(move || {
         let (mut looks, mut bytes) = (Vec::new(), 0);

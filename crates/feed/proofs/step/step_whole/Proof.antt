@@ -12,7 +12,7 @@ use Rattle.cycle.specs.declared.number.Verdict.{Verdict}
 use Rattle.cycle.specs.declared.values.Minor.{Minor}
 use Rattle.feed.specs.Size.{majorMark, wireAt}
 use Rattle.feed.specs.Bytes.{two}
-use Rattle.feed.proofs.Calls.Steps.{whole-minor, whole-major, steppedTo, half-refused, half-minor, half-major}
+use Rattle.feed.proofs.Calls.Steps.{whole-minor, whole-major, steppedTo, half-refused, half-both-ways, half-minor, half-major}
 use Rattle.feed.proofs.step.step_whole.Statement.{statement}
 use Rattle.feed.proofs.step.step_whole.Tie as tie
 
@@ -21,9 +21,6 @@ shared-slice-read-major c = omega (arith, whole-minor _ (c .before .before .pre)
 
 two-at-requires : tie.Need-two-at-requires
 two-at-requires c κs = omega (arith, whole-minor _ (c .before .before .pre))
-
-minor-of-requires : tie.Need-minor-of-requires
-minor-of-requires c κs = whole-minor _ (c .before .before .before .before .before .before .before .pre)
 
 -- from the verdict back to the entry, and the verdict by the record's bytes
 abbrev start : tie.After-judged → tie.Start
@@ -36,38 +33,57 @@ verdict c v e =
     ∙ sym (c .judged .ensures)
     ∙ e
 
-major-of-requires : tie.Need-major-of-requires
-major-of-requires c κs =
-    let at-minor-of = c .before .before in
-    let entry = start (at-minor-of .before .before .before .before) in
-    (whole-major _ (entry .pre) (eqb-true _ majorMark (c .if1 .taken)), at-minor-of .minor-of .ensures)
+-- from the test of the requests back to the verdict
+abbrev found : tie.After-record-both-ways → tie.After-judged
+found c = c .before .before .before .before .before
 
 returns : tie.Need-returns
 returns c =
-    let at-if1 = c .before .before in
-    let at-minor-taken = at-if1 .before in
+    let at-v = c .before .before .before .before in
+    let at-judged = found (c .before) in
+    let a = start at-judged .args in
+    half-both-ways (a .s .now) (a .hall) (start at-judged .pre) _ (verdict at-judged _ (at-v .v .given .1))
+    (sym (c .before .record-both-ways .ensures) ∙ c .if1 .taken)
+
+minor-of-requires : tie.Need-minor-of-requires
+minor-of-requires c κs = whole-minor _ (start (found (c .before)) .pre)
+
+major-of-requires : tie.Need-major-of-requires
+major-of-requires c κs =
+    let at-minor-of = c .before .before in
+    let entry = start (found (at-minor-of .before .before)) in
+    (whole-major _ (entry .pre) (eqb-true _ majorMark (c .if2 .taken)), at-minor-of .minor-of .ensures)
+
+returns-2 : tie.Need-returns-2
+returns-2 c =
+    let at-if2 = c .before .before in
+    let at-minor-taken = at-if2 .before in
     let at-minor-of = at-minor-taken .before in
-    let at-v = at-minor-of .before .before in
-    let at-judged = at-v .before .before in
+    let at-if1 = at-minor-of .before in
+    let at-v = at-if1 .before .before .before .before in
+    let at-judged = found (at-if1 .before) in
     let a = start at-judged .args in
     let next = at-v .v .given .0 .0 in
     ap (steppedTo Taken) (c .major-taken .ensures ∙ ap₂ majorTaken (c .before .major-of .ensures)
     (at-minor-taken .minor-taken .ensures ∙ ap (λ (x : Minor). minorTaken x next (a .hall)) (at-minor-of .minor-of .ensures)))
-    ∙ half-major (a .s .now) (a .hall) (start at-judged .pre) next (at-if1 .if1 .taken) (verdict at-judged _ (at-v .v .given .1))
+    ∙ half-major (a .s .now) (a .hall) (start at-judged .pre) next (verdict at-judged _ (at-v .v .given .1))
+    (sym (at-if1 .before .record-both-ways .ensures) ∙ at-if1 .if1 .left) (at-if2 .if2 .taken)
 
-returns-2 : tie.Need-returns-2
-returns-2 c =
+returns-3 : tie.Need-returns-3
+returns-3 c =
     let at-minor-of = c .before .before in
-    let at-v = at-minor-of .before .before in
-    let at-judged = at-v .before .before in
+    let at-if1 = at-minor-of .before in
+    let at-v = at-if1 .before .before .before .before in
+    let at-judged = found (at-if1 .before) in
     let a = start at-judged .args in
     let next = at-v .v .given .0 .0 in
     ap (steppedTo Taken)
     (c .before .minor-taken .ensures ∙ ap (λ (x : Minor). minorTaken x next (a .hall)) (at-minor-of .minor-of .ensures))
-    ∙ half-minor (a .s .now) (a .hall) (start at-judged .pre) next (c .if1 .left) (verdict at-judged _ (at-v .v .given .1))
+    ∙ half-minor (a .s .now) (a .hall) (start at-judged .pre) next (verdict at-judged _ (at-v .v .given .1))
+    (sym (at-if1 .before .record-both-ways .ensures) ∙ at-if1 .if1 .left) (c .if2 .left)
 
-returns-3 : tie.Need-returns-3
-returns-3 c =
+returns-4 : tie.Need-returns-4
+returns-4 c =
     let at-v = c .before in
     let at-judged = at-v .before .before in
     let a = start at-judged .args in
@@ -76,5 +92,5 @@ returns-3 c =
 pub step-whole-spec : {M : Type 1} → statement M
 step-whole-spec =
     tie.close
-    (tie.spec shared-slice-read-major two-at-requires (λ c κs. search needs) (λ c. search needs) minor-of-requires (λ c κs. search needs)
-    major-of-requires (λ c κs. search needs) (λ c. search needs) returns returns-2 returns-3)
+    (tie.spec shared-slice-read-major two-at-requires (λ c κs. search needs) (λ c. search needs) (λ c κs. search needs) returns
+    minor-of-requires (λ c κs. search needs) major-of-requires (λ c κs. search needs) (λ c. search needs) returns-2 returns-3 returns-4)

@@ -3,10 +3,12 @@ use Rattle.cycle.specs.Hall.{taken, stepped}
 use Rattle.cycle.specs.declared.answer.Answer.the-variants.{Taken}
 use Rattle.cycle.specs.declared.hall.Hall.{Hall}
 use Rattle.cycle.specs.declared.hall.Stepped.{Stepped}
-use mathlib.Core.Path.{_≡_, sym, ap, _∙_}
+use mathlib.Core.Path.{_≡_, refl, sym, ap, _∙_}
 use mathlib.Core.Bool.{false}
 use Rattle.cycle.specs.Numbers.{judged}
+use Rattle.cycle.specs.Records.{minor}
 use Rattle.cycle.specs.declared.number.Verdict.the-variants.{Takes, Refuses}
+use Rattle.cycle.proofs.Verdicts.{verdict-takes, verdict-refused}
 use borrow.Author.Needs.{needs}
 use Rattle.cycle.proofs.hall.Hall.minor.Statement.{statement}
 use Rattle.cycle.proofs.hall.Hall.minor.Tie as tie
@@ -21,7 +23,7 @@ returns c =
     let a = c .before .before .before .before .before .args in
     let e : judged (a .self .n) (a .r .wire) false ≡ Takes (c .before .before .v .given .0 .0) =
     sym (c .before .before .before .before .judged .ensures) ∙ c .before .before .v .given .1 in
-    rw e (ap steppedTo (c .minor-taken .ensures))
+    rw (verdict-takes (a .self .n) (a .self .masks) (minor (a .r)) _ e refl) (ap steppedTo (c .minor-taken .ensures))
 
 returns-2 : tie.Need-returns-2
 unfolding stepped
@@ -29,7 +31,7 @@ returns-2 c =
     let a = c .before .before .before .before .args in
     let e : judged (a .self .n) (a .r .wire) false ≡ Refuses (c .before .v2 .given .0 .0) =
     sym (c .before .before .before .judged .ensures) ∙ c .before .v2 .given .1 in
-    rw e
+    rw (verdict-refused (a .self .n) (a .self .masks) (minor (a .r)) _ e)
 
 pub minor-spec : {M : Type 1} → statement M
 minor-spec =
