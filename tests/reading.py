@@ -7,8 +7,8 @@ import pathlib
 import re
 
 root = pathlib.Path(__file__).resolve().parent.parent
-FRONT = tuple(f"crates/promises/proofs/{name}.antt" for name in ("Promises", "Writer", "Keeper"))
-CRATES = ("writer", "feed", "cycle", "bits")
+FRONT = tuple(f"crates/promises/proofs/{name}.antt" for name in ("Promises", "Writer", "Engines", "Keeper"))
+CRATES = ("plain", "writer", "feed", "cycle", "bits", "lines")
 
 
 @functools.cache
@@ -49,10 +49,16 @@ def constructors(path):
 
 
 @functools.cache
+def aliases(path):
+    """The modules that a file uses whole, by the names that it has for them."""
+    return {alias: module for module, alias in re.findall(r"^(?:ghost )?use (\S+) as (\S+)$", text_of(path), re.M)}
+
+
+@functools.cache
 def scope(path):
     """What the names of a file stand for."""
     names, text = {}, text_of(path)
-    for module, listed in re.findall(r"^(?:ghost )?use (\S+?)(?:\.\{| as )([^}\n]*)", text, re.M):
+    for module, listed in re.findall(r"^(?:ghost )?use (\S+?)\.\{([^}\n]*)", text, re.M):
         for name in re.split(r",\s*", listed):
             if at := place(module, name):
                 names[name] = at
@@ -65,14 +71,21 @@ def scope(path):
 
 
 def words(text):
-    """The names in a text, without projections `x .field` and the fields that a record is written with."""
+    """The names in a text, `alias.name` as one, without projections `x .field` and the fields that a record is written with."""
     text = re.sub(r"(?<![^\s(])\.[^\s(){};,.]+", " ", text)
-    return re.findall(r"[^\s(){}\[\];,.:]+(?! =\s)(?=[\s(){}\[\];,.:]|$)", text)
+    return re.findall(r"[^\s(){}\[\];,.:]+(?:\.[^\s(){}\[\];,.:]+)?(?! =\s)(?=[\s(){}\[\];,.:]|$)", text)
 
 
 def named(path, text):
     """What a definition or a statement of a file names."""
-    return [scope(path)[word] for word in words(text) if word in scope(path)]
+    found = []
+    for word in words(text):
+        alias, _, name = word.partition(".")
+        if name and alias in aliases(path):
+            found.append(place(aliases(path)[alias], name))
+        else:
+            found += [scope(path).get(part) for part in word.split(".")]
+    return [at for at in found if at]
 
 
 def closure(start):

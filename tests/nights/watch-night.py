@@ -1,5 +1,5 @@
 #!/usr/bin/env python3
-"""Writes the night that the gate runs `watch` on: the map, then ten seconds of feed with the mishaps that the monitor is for.
+"""Writes the night that the gate runs `watch` and `plainwatch` on: the map, then ten seconds of feed with the mishaps that the monitor is for.
 
 String 0 has four jets on manifold 0 and four on manifold 1; string 1 has one jet on manifold 3.
 """

@@ -9,7 +9,7 @@ const MAJOR_EVERY: u32 = 25;
 /// A temperature word up to this, as a signed number, shows a leak.
 const LEAKS_UP_TO: i16 = 63;
 const MOST_APART: u16 = 16;
-const REPORT_LENGTH: usize = 34;
+pub const REPORT_LENGTH: usize = 34;
 /// As many temperature words as the compiler tests at once.
 const LANES: usize = 8;
 
@@ -20,9 +20,13 @@ const COUNT_ENDED: u8 = 3;
 const WRONG_KIND: u8 = 4;
 const BOTH_WAYS: u8 = 7;
 
+pub type Report = [u8; REPORT_LENGTH];
+
 pub struct Hall {
     n: u32,
     strings: [JetString; STRINGS],
+    /// Bit s set: the path of string s is lost.
+    lost: u8,
     balance: u8,
     lesser: [u16; MODULES],
 }
@@ -46,7 +50,6 @@ struct JetString {
     inhibit: u32,
     reenable: u32,
     close: u8,
-    lost: bool,
 }
 
 /// What a taken record leads to.
@@ -64,33 +67,27 @@ impl Hall {
         let overlap = strings.iter().any(|string: &JetString| {
             string.masks.iter().map(|mask| mask.count_ones()).sum::<u32>() != string.mapped.count_ones()
         });
-        (!overlap).then_some(Hall { n: 0, strings, balance: 0, lesser: [0; MODULES] })
+        (!overlap).then_some(Hall { n: 0, strings, lost: 0, balance: 0, lesser: [0; MODULES] })
     }
 
-    pub fn minor(&mut self, record: &MinorRecord) -> u8 {
-        match self.judge(record, false) {
-            Ok(next) => self.step(record, next),
+    /// Takes or refuses a record: the part that both kinds have, and the whole of a major one.
+    pub fn settle(&mut self, minor: &MinorRecord, major: Option<&MajorRecord>) -> u8 {
+        let next = match self.judge(minor, major.is_some()) {
+            Ok(next) => next,
             Err(answer) => return answer,
-        }
-        TAKEN
-    }
-
-    pub fn major(&mut self, record: &MajorRecord) -> u8 {
-        let minor: &MinorRecord = record.first_chunk().expect("a major record is longer");
+        };
         // Requests are rare.
-        let asks = record[REQUESTS..QUANTITIES] != [0; QUANTITIES - REQUESTS];
-        match self.judge(minor, true) {
-            Ok(_) if asks && self.named_both_ways(record) => return BOTH_WAYS,
-            Ok(next) => self.step(minor, next),
-            Err(answer) => return answer,
+        let asking = major.filter(|record| record[REQUESTS..QUANTITIES] != [0; QUANTITIES - REQUESTS]);
+        if asking.is_some_and(|record| self.named_both_ways(record)) {
+            return BOTH_WAYS;
         }
-        if asks {
+        self.step(minor, next);
+        if let Some(record) = asking {
             self.ask(record);
         }
-        for (s, string) in self.strings.iter_mut().enumerate() {
-            string.major(record, s);
+        if let Some(record) = major {
+            self.step_major(record);
         }
-        self.weigh(record);
         TAKEN
     }
 
@@ -119,21 +116,70 @@ impl Hall {
         })
     }
 
+    /// Steps 1 to 4. Inlined, so that the compiler takes the four strings one after the other, with no loop.
+    #[inline(always)]
+    fn step(&mut self, record: &MinorRecord, next: Next) {
+        let (_, path) = head(record);
+        self.n = next.n;
+        // A missed cycle and a path that fails or comes back are rare.
+        if next.gap {
+            self.forget(next.missed_major);
+        }
+        if path != self.lost {
+            self.change_paths(path);
+        }
+        for (s, string) in self.strings.iter_mut().enumerate() {
+            if path >> s & 1 == 0 {
+                string.minor(record, SAMPLES + SAMPLE_LENGTH * s);
+            }
+        }
+    }
+
+    /// Step 1: a string whose path comes back goes on from its good copy.
+    #[cold]
+    fn change_paths(&mut self, path: u8) {
+        let back = self.lost & !path;
+        for (s, string) in self.strings.iter_mut().enumerate() {
+            if back >> s & 1 == 1 {
+                string.standing = string.good;
+                string.off = [0; 2];
+                string.on = 0;
+                string.recheck = 0;
+            }
+        }
+        self.lost = path;
+    }
+
+    /// Step 2. A string without its path may lose these words too: nothing reads them before it loses them by step 1.
+    #[cold]
+    fn forget(&mut self, missed_major: bool) {
+        for string in &mut self.strings {
+            string.off = [0; 2];
+            if missed_major {
+                string.on = 0;
+                string.recheck = 0;
+            }
+        }
+    }
+
     /// Step 5.
     #[cold]
     fn ask(&mut self, record: &MajorRecord) {
         for (s, string) in self.strings.iter_mut().enumerate() {
-            string.ask(record, s);
+            if self.lost >> s & 1 == 0 {
+                string.ask(record, s);
+            }
         }
     }
 
-    fn step(&mut self, record: &MinorRecord, next: Next) {
-        let (_, path) = head(record);
-        self.n = next.n;
+    /// Steps 6 to 8, and the banks.
+    fn step_major(&mut self, record: &MajorRecord) {
         for (s, string) in self.strings.iter_mut().enumerate() {
-            let at = SAMPLES + SAMPLE_LENGTH * s;
-            string.minor(record, at, (path >> s) & 1 == 1, &next);
+            if self.lost >> s & 1 == 0 {
+                string.major(record, s);
+            }
         }
+        self.weigh(record);
     }
 
     fn weigh(&mut self, record: &MajorRecord) {
@@ -148,8 +194,7 @@ impl Hall {
     }
 
     #[inline]
-    pub fn report(&self, answer: u8) -> [u8; REPORT_LENGTH] {
-        let mut report = [0; REPORT_LENGTH];
+    pub fn report(&self, answer: u8, report: &mut Report) {
         report[..3].copy_from_slice(&[0x52, 0x52, answer]);
         report[3..7].copy_from_slice(&self.n.to_be_bytes());
         for (string, part) in self.strings.iter().zip(report[7..27].chunks_exact_mut(5)) {
@@ -160,7 +205,6 @@ impl Hall {
         for (lesser, part) in self.lesser.iter().zip(report[28..].chunks_exact_mut(2)) {
             part.copy_from_slice(&lesser.to_be_bytes());
         }
-        report
     }
 }
 
@@ -178,30 +222,11 @@ impl JetString {
             inhibit: 0,
             reenable: 0,
             close: 0,
-            lost: false,
         }
     }
 
-    /// Steps 1 to 4.
-    fn minor(&mut self, record: &MinorRecord, at: usize, path: bool, next: &Next) {
-        if path {
-            self.lost = true;
-            return;
-        }
-        if self.lost {
-            self.lost = false;
-            self.standing = self.good;
-            self.off = [0; 2];
-            self.on = 0;
-            self.recheck = 0;
-        }
-        if next.gap {
-            self.off = [0; 2];
-        }
-        if next.missed_major {
-            self.on = 0;
-            self.recheck = 0;
-        }
+    /// Steps 3 and 4.
+    fn minor(&mut self, record: &MinorRecord, at: usize) {
         let commanded = self.mapped & word(record, at);
         let pressure = word(record, at + 4);
         let valves = record[at + 12];
@@ -242,9 +267,6 @@ impl JetString {
 
     /// Step 5. No jet is named both ways.
     fn ask(&mut self, record: &MajorRecord, s: usize) {
-        if self.lost {
-            return;
-        }
         let (inhibit, reenable) = self.requests(record, s);
         self.inhibit = (self.inhibit | inhibit) & !reenable;
         self.reenable = (self.reenable | reenable) & !inhibit;
@@ -253,9 +275,6 @@ impl JetString {
 
     /// Steps 6 to 8.
     fn major(&mut self, record: &MajorRecord, s: usize) {
-        if self.lost {
-            return;
-        }
         let sample = SAMPLES + SAMPLE_LENGTH * s;
         let (commanded, driver) = (word(record, sample), word(record, sample + 8));
         let bad = self.mapped & !commanded & (driver | self.leaking(record, s));

@@ -4,14 +4,16 @@
 mod hall;
 mod record;
 
-use hall::Hall;
-use record::{look, Look};
+use hall::{Hall, Report, REPORT_LENGTH};
+use record::{look, Look, MINOR_LENGTH};
 use std::fs::File;
 use std::io::{self, stdin, stdout, ErrorKind, Read, Write};
 use std::os::fd::AsFd;
 
 const MASKS_LENGTH: usize = 64;
 const BUFFER_LENGTH: usize = 65_536;
+/// The buffer has no more records than this.
+const MOST_RECORDS: usize = BUFFER_LENGTH / MINOR_LENGTH;
 
 fn main() -> io::Result<()> {
     // The bare files: the library's own buffers would only copy.
@@ -29,11 +31,10 @@ fn main() -> io::Result<()> {
         return Ok(());
     };
     let mut from = MASKS_LENGTH;
-    let mut reports = Vec::with_capacity(BUFFER_LENGTH);
+    let mut reports = vec![[0; REPORT_LENGTH]; MOST_RECORDS];
     loop {
-        let rest = settle_all(&mut hall, &buffer[from..filled], &mut reports);
-        output.write_all(&reports)?;
-        reports.clear();
+        let (rest, told) = settle_all(&mut hall, &buffer[from..filled], &mut reports);
+        output.write_all(reports[..told].as_flattened())?;
         // What waits for more bytes moves to the front, so that every record lies whole.
         buffer.copy_within(filled - rest..filled, 0);
         from = 0;
@@ -56,22 +57,22 @@ fn read_ready(input: &mut File, buffer: &mut [u8]) -> usize {
     }
 }
 
-/// Settles every record of the feed, and says how many bytes at its end must wait for more.
-fn settle_all(hall: &mut Hall, mut feed: &[u8], reports: &mut Vec<u8>) -> usize {
+/// Settles every record of the feed. How many bytes at its end must wait for more, and how many reports there are.
+fn settle_all(hall: &mut Hall, mut feed: &[u8], reports: &mut [Report]) -> (usize, usize) {
+    let mut told = 0;
     loop {
-        match look(feed) {
-            Look::Drops(bytes) => feed = &feed[bytes..],
-            Look::Waits => return feed.len(),
-            Look::Minor(record) => {
-                let answer = hall.minor(record);
-                reports.extend_from_slice(&hall.report(answer));
-                feed = &feed[record.len()..];
+        let (minor, major) = match look(feed) {
+            Look::Drops(bytes) => {
+                feed = &feed[bytes..];
+                continue;
             }
-            Look::Major(record) => {
-                let answer = hall.major(record);
-                reports.extend_from_slice(&hall.report(answer));
-                feed = &feed[record.len()..];
-            }
-        }
+            Look::Waits => return (feed.len(), told),
+            Look::Minor(record) => (record, None),
+            Look::Major(record) => (record.first_chunk().expect("a major record is longer"), Some(record)),
+        };
+        let answer = hall.settle(minor, major);
+        hall.report(answer, &mut reports[told]);
+        told += 1;
+        feed = &feed[major.map_or(minor.len(), |record| record.len())..];
     }
 }

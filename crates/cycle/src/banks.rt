@@ -15,7 +15,7 @@ pub struct Bank {
 
 impl Bank {
     // Nothing known yet.
-    pub(crate) fn unknown() -> Bank
+    pub fn unknown() -> Bank
         ensures { λ r. ⌜ r ≡ noBank ⌝ }
     {
         Bank {
@@ -46,7 +46,7 @@ fn weighed(q: Quantities) -> Bank
 }
 
 // All modules, each compared anew.
-pub(crate) fn weighed_all(banks: [Bank; MODULES], q: [Quantities; MODULES]) -> [Bank; MODULES]
+pub fn weighed_all(banks: [Bank; MODULES], q: [Quantities; MODULES]) -> [Bank; MODULES]
     ensures { λ r. ⌜ r ≡ weighedAll moduleCount q banks ⌝ }
 {
     let mut next = banks;

@@ -14,3 +14,5 @@ pub mod NoLongWait
 pub mod NextRecord
 pub mod WholeCalls
 pub mod HandedIn
+pub mod HandingOut
+pub mod Growing

@@ -15,3 +15,4 @@ pub mod BadHeard
 pub mod BothWaysHeard
 pub mod Carried
 pub mod Padded
+pub mod MapWords

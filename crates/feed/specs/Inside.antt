@@ -3,3 +3,9 @@
 pub mod Finding
 pub mod Turn
 pub mod LowFirst
+-- what a report shows of a hall, as values; the laws say that its report is the hall's
+pub mod Showing
+-- a call as 'find the next record' and 'step'; the laws say that it is the call
+pub mod Handing
+-- masks that are words
+pub mod MapWords

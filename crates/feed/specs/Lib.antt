@@ -8,6 +8,7 @@ pub mod Step
 pub mod Report
 pub mod Settled
 pub mod Call
+pub mod Handed
 pub mod Answered
 pub mod OneRecord
 pub mod Heard

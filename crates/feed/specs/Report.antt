@@ -17,24 +17,19 @@ use Rattle.cycle.specs.declared.hall.Hall.{Hall}
 use Rattle.cycle.specs.declared.hall.Stepped.{Stepped}
 use Rattle.feed.specs.Size.{markByte, reportLength, oxidizerFrom}
 use Rattle.feed.specs.Bytes.{inTwo, inFour, parts}
+use Rattle.feed.specs.declared.report.Shown.{Shown}
 
 -- "52 52; answer; n after it (4)"
 unfoldable pub headOf : ℕ → ℕ → List ℕ
 headOf answer n = markByte ∷ markByte ∷ answer ∷ inFour n
 
--- "the fail word (4) and close byte (1)"; bits of jets in no mask "are 0 in reports"
+-- "the fail word (4) and close byte (1)"
 unfoldable pub stringBytes : ℕ → ℕ → List ℕ
 stringBytes fail close = inFour fail ++ (close % 256 ∷ [])
 
-abbrev pub reportedFail : Hall → ℕ → ℕ
-reportedFail h s = bitAnd (mapped manifoldCount (masksOf (h .masks) s)) ((stringOf h s) .standing .fail)
-
--- the part of string s
-abbrev pub stringShown : Hall → ℕ → List ℕ
-stringShown h s = stringBytes (reportedFail h s) ((stringOf h s) .close)
-
-unfoldable pub stringsBytes : Hall → List ℕ
-stringsBytes h = parts stringCount (stringShown h)
+-- "for each string", by the fail word and close bits of each
+unfoldable pub stringsBytes : (ℕ → ℕ) → (ℕ → ℕ) → List ℕ
+stringsBytes fail close = parts stringCount (λ s. stringBytes (fail s) (close s))
 
 -- "Balance: bit m set if module m is out of balance, bit 4+m if its oxidizer is the lesser."
 unfoldable pub balanceOf : ℕ → List Bank → ℕ
@@ -53,8 +48,26 @@ lesserBytes banks = parts moduleCount (lesserShown banks)
 unfoldable pub banksBytes : List Bank → List ℕ
 banksBytes banks = balanceOf moduleCount banks % 256 ∷ lesserBytes banks
 
+-- the whole, by what it shows: n, each string's fail word and close bits, and the banks
+abbrev pub reportBy : Answer → ℕ → (ℕ → ℕ) → (ℕ → ℕ) → List Bank → List ℕ
+reportBy a n fail close banks = headOf (numberOf a) n ++ (stringsBytes fail close ++ banksBytes banks)
+
+-- of a hall; bits of jets in no mask "are 0 in reports"
+abbrev pub reportedFail : Hall → ℕ → ℕ
+reportedFail h s = bitAnd (mapped manifoldCount (masksOf (h .masks) s)) ((stringOf h s) .standing .fail)
+
+abbrev pub reportedClose : Hall → ℕ → ℕ
+reportedClose h s = (stringOf h s) .close
+
 unfoldable pub reportOf : Answer → Hall → List ℕ
-reportOf a h = headOf (numberOf a) (h .n) ++ (stringsBytes h ++ banksBytes (h .banks))
+reportOf a h = reportBy a (h .n) (reportedFail h) (reportedClose h) (h .banks)
+
+-- of values that are shown, of whatever engine
+abbrev pub wordAt : List ℕ → ℕ → ℕ
+wordAt words s = getD words s 0
+
+abbrev pub reportShown : Answer → Shown → List ℕ
+reportShown a x = reportBy a (x .n) (wordAt (x .fails)) (wordAt (x .closes)) (x .banks)
 
 -- of what a record led to: its report, where it is taken
 abbrev pub reportTaken : Stepped → List (List ℕ)
@@ -64,5 +77,8 @@ reportTaken x = cond (isTaken (x .answer)) (reportOf (x .answer) (x .hall) ∷ [
 abbrev pub fitsIn : List ℕ → Bool
 fitsIn out = leb reportLength (length out)
 
+abbrev pub intoOutbox : List ℕ → List ℕ → List ℕ
+intoOutbox report out = cond (fitsIn out) (report ++ drop reportLength out) out
+
 abbrev pub reportOver : Answer → Hall → List ℕ → List ℕ
-reportOver a h out = cond (fitsIn out) (reportOf a h ++ drop reportLength out) out
+reportOver a h out = intoOutbox (reportOf a h) out

@@ -1,9 +1,9 @@
 // Numbers in bytes, the high byte first: read from a slice, and put into a part that is lent.
 ghost use mathlib.Core.Path.{_≡_};
-ghost use Prim.Native.Nat.{_+_, _<_};
+ghost use Prim.Native.Nat.{_+_, _*_, _/_, _%_, _<_};
 ghost use lib.ListN.{length, getD};
 ghost use Rattle.feed.specs.Bytes.{two, four, inTwo, inFour, putOver};
-ghost use Rattle.feed.specs.Inside.LowFirst.{lowTwo, lowFour};
+ghost use Rattle.feed.specs.Inside.LowFirst.{lowFour};
 
 pub(crate) fn wide16(x: u8) -> u16
     ensures { λ r. ⌜ (r ≡ x) × (r < 256) ⌝ }
@@ -22,7 +22,7 @@ pub(crate) fn two_at(s: &[u8], i: usize) -> u16
     requires { ⌜ i + 1 < length (now s) ⌝ }
     ensures { λ r. ⌜ r ≡ two (now (s .entry)) i ⌝ }
 {
-    wide16(s[i]) * 256 + wide16(s[i + 1])
+    turned16(wide16(s[i + 1]) * 256 + wide16(s[i]))
 }
 
 // The number in the four bytes from `i` on.
@@ -62,9 +62,10 @@ pub fn read_four(s: &[u8], i: usize) -> u32
         + wide32(byte_behind(s, i, 3))
 }
 
-// A number with its bytes in the other order. Written low byte first, it stands high byte first: so the compiler makes one store of it.
+// A number with its bytes in the other order. What stands high byte first is read, or written, low byte first and turned: so the compiler
+// makes one load, or one store, of it.
 fn turned16(x: u16) -> u16
-    ensures { λ r. ⌜ lowTwo r ≡ inTwo x ⌝ }
+    ensures { λ r. ⌜ r ≡ x % 256 * 256 + x / 256 ⌝ }
 {
     (x % 256) * 256 + x / 256
 }

@@ -59,7 +59,13 @@ pub struct Turned {
 }
 
 // The bytes of the record found: in the store, or in the piece from `at` on.
-fn found_bytes<'a>(b: &'a [u8], piece: &'a [u8], held: bool, at: usize, long: usize) -> &'a [u8]
+pub(crate) fn found_bytes<'a>(
+    b: &'a [u8],
+    piece: &'a [u8],
+    held: bool,
+    at: usize,
+    long: usize,
+) -> &'a [u8]
     requires { ⌜ (held ≡ true → long ≤ length (now b)) × (held ≡ false → at + long ≤ length (now piece)) ⌝ }
     ensures { λ r. ⌜ now r ≡ foundIn held at long (now (b .entry)) (now (piece .entry)) ⌝ }
 {
@@ -87,7 +93,7 @@ fn step_found<'a>(
 }
 
 // The settled record leaves the store, if it is there.
-fn removed(b: &mut [u8], held: bool, count: usize, long: usize) -> usize
+pub(crate) fn removed(b: &mut [u8], held: bool, count: usize, long: usize) -> usize
     requires { ⌜ count ≤ length (now b) ⌝ }
     requires { ⌜ (held ≡ true → long ≤ count) ⌝ }
     ensures { λ r. ⌜ (r ≡ leftCount held long count) × (now (b .exit) ≡ leftBytes held long count (now (b .entry))) ⌝ }

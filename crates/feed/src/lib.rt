@@ -4,6 +4,7 @@
 pub mod bytes;
 pub mod call;
 pub mod format;
+pub mod hand;
 pub mod masks;
 pub mod reader;
 pub mod report;

@@ -5,8 +5,9 @@ ghost use Prim.Native.Nat.{_≤_};
 ghost use lib.ListN.{length, take, drop};
 ghost use Rattle.cycle.specs.Size.{moduleCount};
 ghost use Rattle.feed.specs.Size.{stringsFrom, stringPart, balanceAt, lesserFrom, reportLength};
-ghost use Rattle.feed.specs.Report.{headOf, stringBytes, stringsBytes, balanceOf, lesserBytes, banksBytes, reportOf, fitsIn};
-ghost use Rattle.feed.specs.Report.{reportOver};
+ghost use Rattle.feed.specs.Report.{headOf, stringBytes, stringsBytes, balanceOf, lesserBytes, banksBytes};
+ghost use Rattle.feed.specs.Inside.Showing.{shownOf};
+ghost use Rattle.feed.specs.Report.{wordAt, reportOf, reportShown, fitsIn, intoOutbox, reportOver};
 use crate::bytes::put_four;
 use crate::bytes::put_two;
 use crate::size::ANSWER_AT;
@@ -26,6 +27,14 @@ use cycle::banks::Bank;
 use cycle::hall::Hall;
 use cycle::size::MODULES;
 use cycle::size::STRINGS;
+
+// What a report shows: n, each string's fail word and close bits, and the banks.
+pub struct Shown {
+    pub n: u32,
+    pub fails: [u32; STRINGS],
+    pub closes: [u32; STRINGS],
+    pub banks: [Bank; MODULES],
+}
 
 // Mark, answer and cycle number.
 fn put_head(s: &mut [u8], answer: u8, n: u32)
@@ -63,21 +72,14 @@ fn balance_of(banks: [Bank; MODULES]) -> u32
 }
 
 // The parts of all strings.
-fn put_strings(out: &mut [u8], h: Hall)
+fn put_strings(out: &mut [u8], fails: [u32; STRINGS], closes: [u32; STRINGS])
     requires { ⌜ reportLength ≤ length (now out) ⌝ }
-    ensures { λ r. ⌜ now (out .exit) ≡ take stringsFrom (now (out .entry)) ++ (stringsBytes h ++ drop balanceAt (now (out .entry))) ⌝ }
+    ensures { λ r. ⌜ now (out .exit) ≡ take stringsFrom (now (out .entry)) ++ (stringsBytes (wordAt fails) (wordAt closes) ++ drop balanceAt (now (out .entry))) ⌝ }
 {
     let mut s: usize = 0;
     while s < STRINGS {
         let a = STRINGS_FROM + STRING_PART * s;
-        let m = h.masks[s];
-        let x = h.strings[s];
-        let standing = x.standing;
-        put_string(
-            &mut out[a..a + STRING_PART],
-            m.mapped() & standing.fail,
-            x.close,
-        );
+        put_string(&mut out[a..a + STRING_PART], fails[s], closes[s]);
         s += 1;
     }
 }
@@ -105,24 +107,65 @@ fn put_banks(out: &mut [u8], banks: [Bank; MODULES])
     put_lesser(out, banks);
 }
 
-// The report of answer and hall; the bytes after it keep their values.
+// The report of answer and shown values; the bytes after it keep their values.
+fn write_shown(out: &mut [u8], answer: Answer, x: Shown)
+    requires { ⌜ reportLength ≤ length (now out) ⌝ }
+    ensures { λ r. ⌜ now (out .exit) ≡ reportShown answer x ++ drop reportLength (now (out .entry)) ⌝ }
+{
+    put_head(&mut out[0..STRINGS_FROM], answer.number(), x.n);
+    let fails = x.fails;
+    let closes = x.closes;
+    put_strings(out, fails, closes);
+    let banks = x.banks;
+    put_banks(out, banks);
+}
+
+// What a report shows of a hall.
+fn shown_of(h: Hall) -> Shown
+    ensures { λ r. ⌜ r ≡ shownOf h ⌝ }
+{
+    let mut fails = [0u32; STRINGS];
+    let mut closes = [0u32; STRINGS];
+    let mut s: usize = 0;
+    while s < STRINGS {
+        let m = h.masks[s];
+        let x = h.strings[s];
+        let standing = x.standing;
+        fails[s] = m.mapped() & standing.fail;
+        closes[s] = x.close;
+        s += 1;
+    }
+    let banks = h.banks;
+    Shown {
+        n: h.n,
+        fails: fails,
+        closes: closes,
+        banks: banks,
+    }
+}
+
+// The report of answer and hall.
 pub(crate) fn write_report(out: &mut [u8], answer: Answer, h: Hall)
     requires { ⌜ reportLength ≤ length (now out) ⌝ }
     ensures { λ r. ⌜ now (out .exit) ≡ reportOf answer h ++ drop reportLength (now (out .entry)) ⌝ }
 {
-    put_head(&mut out[0..STRINGS_FROM], answer.number(), h.n);
-    put_strings(out, h);
-    let banks = h.banks;
-    put_banks(out, banks);
+    write_shown(out, answer, shown_of(h));
 }
 
-// The same for an outbox of any length: one that is too short keeps its bytes, and the answer is no.
-pub fn put_report(out: &mut [u8], answer: Answer, h: Hall) -> bool
-    ensures { λ r. ⌜ (r ≡ fitsIn (now (out .entry))) × (now (out .exit) ≡ reportOver answer h (now (out .entry))) ⌝ }
+// The report of shown values, into an outbox of any length: one that is too short keeps its bytes, and the answer is no.
+pub fn put_shown(out: &mut [u8], answer: Answer, x: Shown) -> bool
+    ensures { λ r. ⌜ (r ≡ fitsIn (now (out .entry))) × (now (out .exit) ≡ intoOutbox (reportShown answer x) (now (out .entry))) ⌝ }
 {
     if out.len() < REPORT {
         return false;
     }
-    write_report(out, answer, h);
+    write_shown(out, answer, x);
     true
+}
+
+// The same of a hall.
+pub fn put_report(out: &mut [u8], answer: Answer, h: Hall) -> bool
+    ensures { λ r. ⌜ (r ≡ fitsIn (now (out .entry))) × (now (out .exit) ≡ reportOver answer h (now (out .entry))) ⌝ }
+{
+    put_shown(out, answer, shown_of(h))
 }

@@ -1,6 +1,6 @@
 // The values of a record: its bytes as the cycle rules take them.
 ghost use mathlib.Core.Path.{_≡_};
-ghost use Prim.Native.Nat.{_+_, _≤_, _<_};
+ghost use Prim.Native.Nat.{_+_, _≤_};
 ghost use lib.ListN.{length};
 ghost use Rattle.feed.specs.Size.{sampleLength, temperaturesLength, requestsLength, quantitiesLength, minorLength, majorLength};
 ghost use Rattle.feed.specs.Values.{sampleAt, samplesOf, minorOf, temperaturesAt, temperaturesOf, requestsAt, requestsOf};
@@ -179,9 +179,9 @@ pub(crate) fn major_of(s: &[u8], minor: Minor) -> Major
     }
 }
 
-// Bytes that are fewer than a record's, and 0 in the places behind them.
-fn padded(s: &[u8]) -> [u8; MAJOR_LENGTH]
-    requires { ⌜ length (now s) < majorLength ⌝ }
+// Bytes that are no more than a major record's, and 0 in the places behind them.
+pub(crate) fn padded(s: &[u8]) -> [u8; MAJOR_LENGTH]
+    requires { ⌜ length (now s) ≤ majorLength ⌝ }
     ensures { λ r. ⌜ r ≡ store (now (s .entry)) ⌝ }
 {
     let mut whole = [0u8; MAJOR_LENGTH];

@@ -18,6 +18,8 @@ use Rattle.cycle.proofs.answer.Answer.number as answer-number
 use Rattle.cycle.proofs.map.Masks.none as masks-none
 use Rattle.cycle.proofs.map.Masks.mapped as masks-mapped
 use Rattle.cycle.proofs.number.judged as judged
+use Rattle.cycle.proofs.banks.Bank.unknown as bank-unknown
+use Rattle.cycle.proofs.banks.«weighed_all» as weighed-all
 use Rattle.cycle.proofs.requests.«both_ways» as both-ways
 use Rattle.cycle.proofs.hall.Hall.fresh as hall-fresh
 use Rattle.cycle.proofs.hall.Hall.«minor_taken» as hall-minor-taken
@@ -29,19 +31,34 @@ use Rattle.feed.proofs.bytes.«read_two» as read-two
 use Rattle.feed.proofs.bytes.«read_four» as read-four
 use Rattle.feed.proofs.bytes.«put_two» as put-two
 use Rattle.feed.proofs.bytes.«put_four» as put-four
+use Rattle.feed.proofs.masks.«masks_of» as masks-of
 use Rattle.feed.proofs.values.«read_minor» as read-minor
 use Rattle.feed.proofs.values.«read_major» as read-major
 use Rattle.feed.proofs.format.sum as sum
 use Rattle.feed.proofs.reader.«find_front» as find-front
+use Rattle.feed.proofs.hand.Reader.empty as reader-empty
+use Rattle.feed.proofs.hand.Reader.next as reader-next
+use Rattle.feed.proofs.report.«put_shown» as put-shown
 use Rattle.feed.proofs.report.«put_report» as put-report
 use Rattle.feed.proofs.step.step as step
 use Rattle.feed.proofs.call.Monitor.start as monitor-start
 use Rattle.feed.proofs.call.Monitor.«start_from» as monitor-start-from
 use Rattle.feed.proofs.call.Monitor.call as monitor-call
 use Rattle.feed.proofs.call.Monitor.run as monitor-run
+use Rattle.plain.proofs.hall.Plain.fresh as plain-fresh
+use Rattle.plain.proofs.hall.Plain.minor as plain-minor
+use Rattle.plain.proofs.hall.Plain.major as plain-major
+use Rattle.plain.proofs.hall.start as plain-start
+use Rattle.plain.proofs.hall.Plain.shown as plain-shown
+use Rattle.plain.proofs.call.PlainMonitor.start as plain-monitor-start
+use Rattle.plain.proofs.call.PlainMonitor.call as plain-monitor-call
 use Rattle.writer.proofs.answer.Writing.number as writing-number
 use Rattle.writer.proofs.write.«write_minor» as write-minor
 use Rattle.writer.proofs.write.«write_major» as write-major
+use Rattle.lines.proofs.read.«read_ready» as read-ready
+use Rattle.lines.proofs.read.«read_first» as read-first
+use Rattle.lines.proofs.write.«write_all» as write-all
+use Rattle.lines.proofs.ending.«ended_at» as ended-at
 
 -- ---- whatever the contract allows is the outcome, and the outbox, of the definition
 
@@ -100,6 +117,12 @@ masks-mapped-asks κs a = tt
 pub judged-asks : AsksNothing judged.ended judged.Reads.Pre
 judged-asks κs a = tt
 
+pub bank-unknown-asks : AsksNothing bank-unknown.ended bank-unknown.Reads.Pre
+bank-unknown-asks κs a = tt
+
+pub weighed-all-asks : AsksNothing weighed-all.ended weighed-all.Reads.Pre
+weighed-all-asks κs a = tt
+
 pub both-ways-asks : AsksNothing both-ways.ended both-ways.Reads.Pre
 both-ways-asks κs a = tt
 
@@ -133,6 +156,9 @@ put-two-asks κs a = tt
 pub put-four-asks : AsksNothing put-four.ended put-four.Reads.Pre
 put-four-asks κs a = tt
 
+pub masks-of-asks : AsksNothing masks-of.ended masks-of.Reads.Pre
+masks-of-asks κs a = tt
+
 pub read-minor-asks : AsksNothing read-minor.ended read-minor.Reads.Pre
 read-minor-asks κs a = tt
 
@@ -144,6 +170,15 @@ sum-asks κs a = tt
 
 pub find-front-asks : AsksNothing find-front.ended find-front.Reads.Pre
 find-front-asks κs a = tt
+
+pub reader-empty-asks : AsksNothing reader-empty.ended reader-empty.Reads.Pre
+reader-empty-asks κs a = tt
+
+pub reader-next-asks : AsksNothing reader-next.ended reader-next.Reads.Pre
+reader-next-asks κs a = tt
+
+pub put-shown-asks : AsksNothing put-shown.ended put-shown.Reads.Pre
+put-shown-asks κs a = tt
 
 pub put-report-asks : AsksNothing put-report.ended put-report.Reads.Pre
 put-report-asks κs a = tt
@@ -163,6 +198,27 @@ monitor-call-asks κs a = tt
 pub monitor-run-asks : AsksNothing monitor-run.ended monitor-run.Reads.Pre
 monitor-run-asks κs a = tt
 
+pub plain-fresh-asks : AsksNothing plain-fresh.ended plain-fresh.Reads.Pre
+plain-fresh-asks κs a = tt
+
+pub plain-minor-asks : AsksNothing plain-minor.ended plain-minor.Reads.Pre
+plain-minor-asks κs a = tt
+
+pub plain-major-asks : AsksNothing plain-major.ended plain-major.Reads.Pre
+plain-major-asks κs a = tt
+
+pub plain-start-asks : AsksNothing plain-start.ended plain-start.Reads.Pre
+plain-start-asks κs a = tt
+
+pub plain-shown-asks : AsksNothing plain-shown.ended plain-shown.Reads.Pre
+plain-shown-asks κs a = tt
+
+pub plain-monitor-start-asks : AsksNothing plain-monitor-start.ended plain-monitor-start.Reads.Pre
+plain-monitor-start-asks κs a = tt
+
+pub plain-monitor-call-asks : AsksNothing plain-monitor-call.ended plain-monitor-call.Reads.Pre
+plain-monitor-call-asks κs a = tt
+
 pub writing-number-asks : AsksNothing writing-number.ended writing-number.Reads.Pre
 writing-number-asks κs a = tt
 
@@ -171,3 +227,15 @@ write-minor-asks κs a = tt
 
 pub write-major-asks : AsksNothing write-major.ended write-major.Reads.Pre
 write-major-asks κs a = tt
+
+pub read-ready-asks : AsksNothing read-ready.ended read-ready.Reads.Pre
+read-ready-asks κs a = tt
+
+pub read-first-asks : AsksNothing read-first.ended read-first.Reads.Pre
+read-first-asks κs a = tt
+
+pub write-all-asks : AsksNothing write-all.ended write-all.Reads.Pre
+write-all-asks κs a = tt
+
+pub ended-at-asks : AsksNothing ended-at.ended ended-at.Reads.Pre
+ended-at-asks κs a = tt

@@ -3,7 +3,9 @@ pub mod UniqueBits
 pub mod UniqueCycle
 pub mod UniqueFeedReader
 pub mod UniqueFeedCall
+pub mod UniquePlain
 pub mod UniqueWriter
+pub mod UniqueLines
 pub mod Contracts
 pub mod ContractsParts
 pub mod Nights
@@ -19,3 +21,4 @@ pub mod SmallRules
 pub mod Keeper
 pub mod Promises
 pub mod Writer
+pub mod Engines

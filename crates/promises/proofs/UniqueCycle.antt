@@ -5,6 +5,8 @@ use Rattle.cycle.proofs.answer.Answer.number as answer-number
 use Rattle.cycle.proofs.map.Masks.none as masks-none
 use Rattle.cycle.proofs.map.Masks.mapped as masks-mapped
 use Rattle.cycle.proofs.number.judged as judged
+use Rattle.cycle.proofs.banks.Bank.unknown as bank-unknown
+use Rattle.cycle.proofs.banks.«weighed_all» as weighed-all
 use Rattle.cycle.proofs.requests.«both_ways» as both-ways
 use Rattle.cycle.proofs.hall.Hall.fresh as hall-fresh
 use Rattle.cycle.proofs.hall.Hall.«minor_taken» as hall-minor-taken
@@ -24,6 +26,12 @@ masks-mapped-one κs a x x′ w w′ p q = (p ∙ sym q, refl)
 
 pub judged-one : OneOutcome judged.ended judged.Reads.Post
 judged-one κs a x x′ w w′ p q = (p ∙ sym q, refl)
+
+pub bank-unknown-one : OneOutcome bank-unknown.ended bank-unknown.Reads.Post
+bank-unknown-one κs a x x′ w w′ p q = (p ∙ sym q, refl)
+
+pub weighed-all-one : OneOutcome weighed-all.ended weighed-all.Reads.Post
+weighed-all-one κs a x x′ w w′ p q = (p ∙ sym q, refl)
 
 pub both-ways-one : OneOutcome both-ways.ended both-ways.Reads.Post
 both-ways-one κs a x x′ w w′ p q = (p ∙ sym q, refl)

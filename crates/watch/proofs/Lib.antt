@@ -1,5 +1,1 @@
-pub mod Failures
-pub mod LinesTold
-pub mod Ending
-pub mod Growing
 pub mod Watching

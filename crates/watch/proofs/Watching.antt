@@ -4,8 +4,8 @@ use mathlib.Core.Bool.{Bool, true, false}
 use mathlib.Core.List.{List, [], _∷_, _++_, append-nil}
 use Prim.Native.Nat.{ℕ, _+_, _-_, _<_, _≤_, _%_, _^_}
 use native.Mathlib.Omega.{arith}
-use lib.ListN.{length, take, drop, length-append, length-drop, drop-of-length-le}
-use lib.Seq.{take-at, drop-at, take-add, drop-drop, length-take-le}
+use lib.ListN.{length, take, drop, length-append, drop-of-length-le}
+use lib.Seq.{take-at}
 use Rattle.cycle.specs.declared.map.Masks.{Masks}
 use Rattle.cycle.specs.Size.{stringCount}
 use Rattle.cycle.specs.Map.{refused}
@@ -21,8 +21,8 @@ use Rattle.feed.specs.declared.call.Outcome.{Outcome}
 use Rattle.feed.specs.declared.call.Ran.{Ran}
 use Rattle.feed.proofs.Calls.Starting.{starts-from}
 use Rattle.feed.proofs.Calls.Batches.{batch-continues}
+use Rattle.feed.proofs.Calls.Growing.{hands-more, rest-of}
 use Rattle.watch.specs.Watched.{Fresh, Watched, ReportedFor}
-use Rattle.watch.proofs.Growing.{hands-more}
 
 -- 64 bytes of a map that is not refused start a fresh monitor
 pub fresh-from : (map : List ℕ) (s : Outcome) → length map ≡ mapLength → s ≡ startedFrom map → (s .answer ≡ MapRefused → ⊥)
@@ -119,18 +119,6 @@ module _ (start m : Monitor) (turns fed told : ℕ) (piece : List ℕ) (room : �
   -- nothing, where the run says that no more comes out
   pub used-up : x .more ≡ false → drop (x .used) piece ≡ []
   used-up e = let all : length piece ≤ x .used = omega (arith, continues .idle e .1) in drop-of-length-le piece all
-
--- what is left of a part when its front is used
-rest-of : (at n used : ℕ) (input : List ℕ) → at ≤ n → n ≤ length input → at + used ≤ n
-    → drop used (take (n - at) (drop at input)) ≡ take (n - (at + used)) (drop (at + used) input)
-rest-of at n used input before within fits =
-    let l : List ℕ = drop at input in
-    let k : n - at ≡ used + (n - (at + used)) = omega arith in
-    let long : used ≤ length l = omega (arith, length-drop at input) in
-    ap (λ (j : ℕ). drop used (take j l)) k
-    ∙ ap (drop used) (take-add used (n - (at + used)) l)
-    ∙ drop-at (take used l) (take (n - (at + used)) (drop used l)) used (length-take-le used l long)
-    ∙ ap (take (n - (at + used))) (drop-drop used at input)
 
 module _ (start m : Monitor) (turns fed told at n : ℕ) (input out : List ℕ) (r : Ran) (after : List ℕ) where
   abbrev piece : List ℕ

@@ -1,7 +1,6 @@
 -- What the program keeps from turn to turn, and what it may write. Assumes nothing.
 use mathlib.Core.Path.{_≡_}
 use mathlib.Core.Bool.{false}
-use mathlib.Core.Logic.{_⊎_}
 use mathlib.Core.List.{List}
 use Prim.Native.Nat.{ℕ, _≤_, _%_, _^_}
 use lib.ListN.{length}
@@ -13,9 +12,6 @@ use Rattle.feed.specs.Call.{startedOver, runs}
 use Rattle.feed.specs.Calls.{Made, monitorAfter, Hands}
 use Rattle.feed.specs.Batch.{allReports}
 use Rattle.feed.specs.declared.call.Monitor.{Monitor}
-use Rattle.watch.specs.Lines.{largestCount, saidOver}
-use Rattle.watch.specs.declared.Ended.{Ended}
-use Rattle.watch.specs.declared.Why.the-variants.{InputOver, OutputOver, OutOfTurns, OutOfTries}
 
 -- "the sixteen masks first (64 bytes ..)", "if the masks are short or refused it writes nothing": the monitor is fresh over these bytes, a
 -- whole map that is accepted
@@ -43,10 +39,3 @@ pub record ReportedFor (start m : Monitor) (turns fed told : ℕ) (piece bytes :
   pub room : ℕ
   pub enough : outboxNeeded ≤ room
   pub same : bytes ≡ (runs room m piece) .reports
-
--- the program ends at a line only where the system said that it is over, and for want of turns or of tries only after the largest count of
--- them
-pub record EndedBy (r : Ended) : Type 0 where
-  pub over : (r .why ≡ InputOver) ⊎ (r .why ≡ OutputOver) → saidOver (r .answer) (r .failure)
-  pub turned : r .why ≡ OutOfTurns → r .turns ≡ largestCount
-  pub tried : r .why ≡ OutOfTries → r .tries ≡ largestCount

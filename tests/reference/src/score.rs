@@ -1,5 +1,6 @@
 //! Compares output, counts checks, says loudly which failed and ends the program accordingly.
 
+use std::fmt::{Display, Formatter};
 use std::process::{exit, ExitCode};
 
 /// More failures would only bury the first, and a program that hangs would take hours.
@@ -33,6 +34,44 @@ impl Score {
             true => ExitCode::SUCCESS,
             false => ExitCode::FAILURE,
         }
+    }
+}
+
+/// A program under test, and how many of its outputs have been compared.
+#[derive(Debug)]
+pub struct Program {
+    path: String,
+    compared: u64,
+}
+
+impl Program {
+    pub fn at(path: &str) -> Program {
+        Program { path: path.into(), compared: 0 }
+    }
+
+    pub fn path(&self) -> &str {
+        &self.path
+    }
+
+    /// Runs the program, and demands that its output is made of these parts.
+    pub fn check(
+        &mut self,
+        score: &mut Score,
+        name: &str,
+        (part, wanted): (&str, &[Vec<u8>]),
+        run: impl FnOnce(&str) -> Result<Vec<u8>, String>,
+    ) -> bool {
+        self.compared += 1;
+        let outcome = same(run(&self.path), part, wanted);
+        let holds = outcome.is_ok();
+        score.check(&format!("{}: {name}", self.path), outcome);
+        holds
+    }
+}
+
+impl Display for Program {
+    fn fmt(&self, to: &mut Formatter) -> std::fmt::Result {
+        write!(to, "{}: {} outputs compared", self.path, self.compared)
     }
 }
 

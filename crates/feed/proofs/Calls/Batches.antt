@@ -27,7 +27,7 @@ use Rattle.feed.proofs.Calls.CallCases.{CallCase, none, some, call-case
 use Rattle.feed.proofs.Cutting.Finishing.{room, room-enough}
 
 -- a call that settles no record says so and uses its piece up
-idle-by : (m : Monitor) (piece out : List ℕ) (c : Result) → CallCase m piece out c → writesReport (c .outcome .answer) ≡ false
+pub idle-by : (m : Monitor) (piece out : List ℕ) (c : Result) → CallCase m piece out c → writesReport (c .outcome .answer) ≡ false
     → (c .outcome .answer ≡ NothingSettled) × (c .outcome .used ≡ length piece)
 idle-by m piece out c (none z) e = (refl, refl)
 idle-by m piece out c (some z held used x short fits back same) e =

@@ -11,7 +11,7 @@ use borrow.Author.Tests.{le-ltb, ltb-false}
 use borrow.Rule.Slice.PartMut.{putMid}
 use lib.ListN.{length, take, drop, replicate}
 use Rattle.feed.specs.Size.{storeLength, mostHeld, outboxNeeded}
-use Rattle.feed.specs.Reader.{store, heldCount}
+use Rattle.feed.specs.Reader.{store, heldCount, heldOf}
 use Rattle.feed.specs.Call.{holds, holding, Result, called, call}
 use Rattle.feed.specs.Inside.Turn.{Turns}
 use Rattle.feed.specs.declared.call.Monitor.{Monitor}
@@ -31,23 +31,23 @@ pub holds-short : (m : Monitor) → length (holds m) ≤ mostHeld
 holds-short m = taken-short (heldCount (m .count)) (m .held) (held-short (m .count))
 
 -- a store put in order: what is held stays, and zeros stand behind it
-pub record InOrder (m : Monitor) (b : List ℕ) (n : ℕ) : Type 0 where
+pub record InOrder (count : ℕ) (held b : List ℕ) (n : ℕ) : Type 0 where
   pub short : n ≤ mostHeld
   pub long : length b ≡ storeLength
   pub order : b ≡ store (take n b)
-  pub same : take n b ≡ holds m
+  pub same : take n b ≡ heldOf count held
 
-pub put-in-order : (m : Monitor) (n : ℕ) (y : List ℕ) → length (m .held) ≡ storeLength → n ≡ heldCount (m .count)
-    → y ≡ replicate (length (take (storeLength - n) (drop n (m .held)))) 0
-    → InOrder m (putMid n (storeLength - n) (m .held) y) n
-put-in-order m n y l e g =
-    let s : n ≤ mostHeld = rw e (held-short (m .count)) in
+pub put-in-order : (count : ℕ) (held : List ℕ) (n : ℕ) (y : List ℕ) → length held ≡ storeLength → n ≡ heldCount count
+    → y ≡ replicate (length (take (storeLength - n) (drop n held))) 0
+    → InOrder count held (putMid n (storeLength - n) held y) n
+put-in-order count held n y l e g =
+    let s : n ≤ mostHeld = rw e (held-short count) in
     let f : n + (storeLength - n) ≡ storeLength = omega arith in
     record {
       short = s;
-      long = again-long (m .held) y n (storeLength - n) l f g;
-      order = again-store (m .held) y n (storeLength - n) l f g;
-      same = again-take (m .held) y n (storeLength - n) l f g ∙ ap (λ (k : ℕ). take k (m .held)) e;
+      long = again-long held y n (storeLength - n) l f g;
+      order = again-store held y n (storeLength - n) l f g;
+      same = again-take held y n (storeLength - n) l f g ∙ ap (λ (k : ℕ). take k held) e;
     }
 
 -- the monitor put in order answers as the one handed in

@@ -60,7 +60,7 @@ pub record Loops (m : Monitor) (piece out₀ : List ℕ) (hall : Hall) (b : List
   pub same : runs (length out₀) m piece
       ≡ joined used reports (runsWithin most (length out₀ - written) (monitorAt hall b count) (drop used piece))
 
-pub loop-starts : (m : Monitor) (b piece out₀ : List ℕ) (count : ℕ) → InOrder m b count
+pub loop-starts : (m : Monitor) (b piece out₀ : List ℕ) (count : ℕ) → InOrder (m .count) (m .held) b count
     → Loops (monitorAt (m .hall) b count) piece out₀ (m .hall) b count 0 0 out₀
 loop-starts m b piece out₀ count x = record {
   reports = [];
@@ -230,7 +230,7 @@ put-rest a out o h =
     rw (e, append-nil)
 
 -- the loop starts from the monitor handed in, put in order
-pub runs-start : (m : Monitor) (b : List ℕ) (n : ℕ) (piece out : List ℕ) → outboxNeeded ≤ length out → InOrder m b n
+pub runs-start : (m : Monitor) (b : List ℕ) (n : ℕ) (piece out : List ℕ) → outboxNeeded ≤ length out → InOrder (m .count) (m .held) b n
     → runs (length out) (monitorAt (m .hall) b n) piece ≡ runs (length out) m piece
 runs-start m b n piece out room x =
     let k : length out ≡ suc (length out - 1) = omega arith in

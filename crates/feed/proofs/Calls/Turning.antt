@@ -18,6 +18,7 @@ use Rattle.feed.specs.Inside.Finding.{Finds}
 use Rattle.feed.specs.Step.{isWhole, stepOf}
 use Rattle.feed.specs.Report.{reportOf}
 use Rattle.feed.specs.Call.{holds, holding, calledBy, called}
+use Rattle.feed.specs.Handed.{handedAt}
 use Rattle.feed.specs.Inside.Turn.{foundIn, leftCount, leftBytes, Turns}
 use Rattle.feed.specs.declared.reader.Found.{Found}
 use Rattle.feed.proofs.Records.Lengths.{shown-none, shown-some}
@@ -44,20 +45,15 @@ rest-short h (x ∷ p) = by (rest-short (settle h ++ (x ∷ [])) p) (settles (lo
     by l true = omega arith
     by l false = omega arith
 
--- ---- the call on such a monitor, by whether a record was found
+-- ---- what was looked for and found
 
-module _ (hall : Hall) (h piece out : List ℕ) (from : ℕ) (f : Found) (kept : List ℕ) (short : length h ≤ mostHeld)
-    (within : from ≤ length piece) (found : Finds h piece from f kept) where
+module _ (h piece : List ℕ) (from : ℕ) (f : Found) (kept : List ℕ) (short : length h ≤ mostHeld) (within : from ≤ length piece)
+    (found : Finds h piece from f kept) where
   stop : Stop
   stop = reads h (drop from piece)
 
   taken : ℕ
   taken = length (drop from piece) - length (stop .rest)
-
-  called-by : (t : Bool) → settles (look (stop .left)) ≡ t
-      → called (holding hall h) (drop from piece) out ≡ calledBy t hall stop taken out
-  unfolding called stop taken
-  called-by t e = rw (holds-same hall h short, e)
 
   used-so-far : f .used ≡ from + taken
   unfolding stop taken
@@ -84,13 +80,31 @@ module _ (hall : Hall) (h piece out : List ℕ) (from : ℕ) (f : Found) (kept :
       let none : (reads h (drop from piece)) .left ≡ [] = x .3 ∙ ap (λ (n : ℕ). take n (drop (f .at) piece)) e in
       (x .1 ∙ sym (ap length none), x .2 ∙ sym (ap store none))
 
-  pub turn-none : f .long ≡ 0
-      → Turns (called (holding hall h) (drop from piece) out) from
-      (record { settled = false; answer = NothingSettled; hall = hall; count = f .count; used = f .used }) kept out
-  turn-none e =
-      let c = called-by false (shown-none (look (stop .left)) (sym long-same ∙ e)) in
+  -- what a reader by itself hands out: nothing
+  pub handed-none : f .long ≡ 0
+      → record { used = f .used; long = 0; bytes = store []; reader = record { held = kept; count = f .count } }
+      ≡ handedAt (reads h (drop from piece)) (from + (length (drop from piece) - length ((reads h (drop from piece)) .rest)))
+  unfolding stop taken
+  handed-none e =
       let x = kept-none e (f .held) refl in
-      rw c (record { settled = refl; answer = refl; hall = refl; count = x .0; used = used-so-far; held = x .1; outbox = refl })
+      let n : lengthShown (look ((reads h (drop from piece)) .left)) ≡ 0 = sym long-same ∙ e in
+      rw (n, used-so-far, x .0, x .1)
+
+  -- ---- the call on a monitor that holds h
+
+  module _ (hall : Hall) (out : List ℕ) where
+    called-by : (t : Bool) → settles (look (stop .left)) ≡ t
+        → called (holding hall h) (drop from piece) out ≡ calledBy t hall stop taken out
+    unfolding called stop taken
+    called-by t e = rw (holds-same hall h short, e)
+
+    pub turn-none : f .long ≡ 0
+        → Turns (called (holding hall h) (drop from piece) out) from
+        (record { settled = false; answer = NothingSettled; hall = hall; count = f .count; used = f .used }) kept out
+    turn-none e =
+        let c = called-by false (shown-none (look (stop .left)) (sym long-same ∙ e)) in
+        let x = kept-none e (f .held) refl in
+        rw c (record { settled = refl; answer = refl; hall = refl; count = x .0; used = used-so-far; held = x .1; outbox = refl })
 
   -- a record was settled: it is the front of what is left
   module _ (some : f .long ≡ 0 → ⊥) where
@@ -153,24 +167,43 @@ module _ (hall : Hall) (h piece out : List ℕ) (from : ℕ) (f : Found) (kept :
     pub found-fits : (f .held ≡ true → f .long ≤ length kept) × (f .held ≡ false → f .at + f .long ≤ length piece)
     found-fits = (λ q. let a = held-fits q in let b = count-fits in omega arith, λ q. found .inPiece q .4)
 
-    pub turn-some : (x : Stepped) (left : ℕ) (b o : List ℕ)
-        → x ≡ stepOf (foundIn (f .held) (f .at) (f .long) kept piece) hall
+    -- or the record
+    pub handed-some : (bytes : List ℕ) (left : ℕ) (b : List ℕ) → bytes ≡ store (foundIn (f .held) (f .at) (f .long) kept piece)
         → left ≡ leftCount (f .held) (f .long) (f .count) → b ≡ leftBytes (f .held) (f .long) (f .count) kept
-        → o ≡ reportOf (x .answer) (x .hall) ++ drop reportLength out
-        → Turns (called (holding hall h) (drop from piece) out) from
-        (record { settled = true; answer = x .answer; hall = x .hall; count = left; used = f .used }) b o
-    turn-some x left b o ex el eb eo =
-        let w = found-whole in
-        let r = record-same (f .held) refl sized in
-        let s : x ≡ stepOf (take (f .long) (stop .left)) hall = ex ∙ ap (λ (l : List ℕ). stepOf l hall) r in
+        → record { used = f .used; long = f .long; bytes = bytes; reader = record { held = b; count = left } }
+        ≡ handedAt (reads h (drop from piece)) (from + (length (drop from piece) - length ((reads h (drop from piece)) .rest)))
+    unfolding stop taken
+    handed-some bytes left b ex el eb =
         let k = left-same (f .held) refl sized in
-        rw (called-by true there, ← long-same)
-        (record {
-          settled = sym (step-reports (take (f .long) (stop .left)) hall (sym (ap isWhole r) ∙ w));
-          answer = ap (λ (y : Stepped). y .answer) s;
-          hall = ap (λ (y : Stepped). y .hall) s;
-          count = el ∙ k .0;
-          used = used-so-far;
-          held = eb ∙ k .1;
-          outbox = eo ∙ ap (λ (y : Stepped). reportOf (y .answer) (y .hall) ++ drop reportLength out) s;
-        })
+        let v = ex ∙ ap store (record-same (f .held) refl sized) in
+        rw (← long-same, used-so-far, v, el ∙ k .0, eb ∙ k .1)
+
+    -- which fits into a store
+    pub record-short : length (foundIn (f .held) (f .at) (f .long) kept piece) ≤ storeLength
+    record-short =
+        let e = record-same (f .held) refl sized in
+        let l = left-short in
+        rw e (simp length-take (omega arith))
+
+    module _ (hall : Hall) (out : List ℕ) where
+      pub turn-some : (x : Stepped) (left : ℕ) (b o : List ℕ)
+          → x ≡ stepOf (foundIn (f .held) (f .at) (f .long) kept piece) hall
+          → left ≡ leftCount (f .held) (f .long) (f .count) → b ≡ leftBytes (f .held) (f .long) (f .count) kept
+          → o ≡ reportOf (x .answer) (x .hall) ++ drop reportLength out
+          → Turns (called (holding hall h) (drop from piece) out) from
+          (record { settled = true; answer = x .answer; hall = x .hall; count = left; used = f .used }) b o
+      turn-some x left b o ex el eb eo =
+          let w = found-whole in
+          let r = record-same (f .held) refl sized in
+          let s : x ≡ stepOf (take (f .long) (stop .left)) hall = ex ∙ ap (λ (l : List ℕ). stepOf l hall) r in
+          let k = left-same (f .held) refl sized in
+          rw (called-by hall out true there, ← long-same)
+          (record {
+            settled = sym (step-reports (take (f .long) (stop .left)) hall (sym (ap isWhole r) ∙ w));
+            answer = ap (λ (y : Stepped). y .answer) s;
+            hall = ap (λ (y : Stepped). y .hall) s;
+            count = el ∙ k .0;
+            used = used-so-far;
+            held = eb ∙ k .1;
+            outbox = eo ∙ ap (λ (y : Stepped). reportOf (y .answer) (y .hall) ++ drop reportLength out) s;
+          })

@@ -13,9 +13,12 @@ use Rattle.feed.specs.Bytes.{two}
 use Rattle.feed.specs.Values.{minorOf, majorOf, valuesOf}
 
 module _ (r : List ℕ) where
-  pub values-minor : getD r 1 0 ≡ minorMark → valuesOf r ≡ minor (minorOf r)
+  pub values-other : (getD r 1 0 ≡ majorMark → ⊥) → valuesOf r ≡ minor (minorOf r)
   unfolding valuesOf
-  values-minor e = rw (ne-eqb (getD r 1 0) majorMark (λ q. omega arith))
+  values-other other = rw (ne-eqb (getD r 1 0) majorMark other)
+
+  pub values-minor : getD r 1 0 ≡ minorMark → valuesOf r ≡ minor (minorOf r)
+  values-minor e = values-other (λ q. omega arith)
 
   pub values-major : getD r 1 0 ≡ majorMark → valuesOf r ≡ major (majorOf r)
   unfolding valuesOf

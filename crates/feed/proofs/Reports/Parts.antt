@@ -1,5 +1,5 @@
 -- A list that is put together from parts: its length, and what stands at a place. Assumes nothing.
-use mathlib.Core.Path.{_≡_, sym, ap, _∙_}
+use mathlib.Core.Path.{_≡_, refl, sym, ap, ap₂, _∙_}
 use mathlib.Core.List.{List, _++_}
 use mathlib.Core.Logic.{⊎-elim}
 use Prim.Native.Nat.{ℕ, zero, suc, _+_, _*_, _<_}
@@ -31,3 +31,9 @@ module _ (k : ℕ) (f : ℕ → List ℕ) (long : (s : ℕ) → length (f s) ≡
       (omega (arith, parts-length n, mul-suc k s, mul-le-mul-left {m = suc s} {n = n} k b))
       ∙ parts-at n s i b j)
       (eq-or-lt-of-le (le-of-suc-le-suc h))
+
+-- two rules that agree below n give the same list
+pub parts-same : (f g : ℕ → List ℕ) (n : ℕ) → ((s : ℕ) → s < n → f s ≡ g s) → parts n f ≡ parts n g
+unfolding parts
+parts-same f g zero e = refl
+parts-same f g (suc n) e = ap₂ (λ (p q : List ℕ). p ++ q) (parts-same f g n (λ s l. e s (omega arith))) (e n (omega arith))

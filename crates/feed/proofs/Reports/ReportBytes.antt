@@ -6,14 +6,13 @@ use lib.ListN.{getD}
 use Rattle.cycle.specs.Size.{stringCount, moduleCount}
 use Rattle.cycle.specs.Answers.{numberOf}
 use Rattle.cycle.specs.Banks.{noBank}
-use Rattle.cycle.specs.Hall.{stringOf}
 use Rattle.cycle.specs.declared.answer.Answer.{Answer}
 use Rattle.cycle.specs.declared.banks.Bank.{Bank}
 use Rattle.cycle.specs.declared.hall.Hall.{Hall}
 use Rattle.cycle.proofs.Answers.{number-byte}
 use Rattle.feed.specs.Bytes.{inTwo, inFour, parts}
-use Rattle.feed.specs.Report.{headOf, stringBytes, reportedFail, stringShown, stringsBytes, lesserShown, lesserBytes, banksBytes}
-use Rattle.feed.specs.Report.{reportOf}
+use Rattle.feed.specs.Report.{headOf, stringBytes, stringsBytes, lesserShown, lesserBytes, banksBytes}
+use Rattle.feed.specs.Report.{reportedFail, reportedClose, reportOf}
 
 abbrev Bytes : List ℕ → Type 0
 Bytes [] = Unit {0}
@@ -39,13 +38,14 @@ unfolding parts
 parts-bytes f each zero = tt
 parts-bytes f each (suc n) = both (parts n f) (f n) (parts-bytes f each n) (each n)
 
-string-bytes : (h : Hall) (s : ℕ) → Bytes (stringShown h s)
+string-bytes : (fail close : ℕ) → Bytes (stringBytes fail close)
 unfolding stringBytes
-string-bytes h s = both (inFour (reportedFail h s)) ((stringOf h s) .close % 256 ∷ []) (four-bytes (reportedFail h s)) (omega arith, tt)
+string-bytes fail close = both (inFour fail) (close % 256 ∷ []) (four-bytes fail) (omega arith, tt)
 
-strings-bytes : (h : Hall) → Bytes (stringsBytes h)
+strings-bytes : (fail close : ℕ → ℕ) → Bytes (stringsBytes fail close)
 unfolding stringsBytes
-strings-bytes h = parts-bytes (stringShown h) (string-bytes h) stringCount
+strings-bytes fail close =
+    parts-bytes (λ s. stringBytes (fail s) (close s)) (λ s. string-bytes (fail s) (close s)) stringCount
 
 lesser-bytes : (banks : List Bank) → Bytes (lesserBytes banks)
 unfolding lesserBytes
@@ -62,8 +62,9 @@ head-bytes a n = (omega arith, (omega arith, (number-byte a, four-bytes n)))
 report-all : (a : Answer) (h : Hall) → Bytes (reportOf a h)
 unfolding reportOf
 report-all a h =
-    both (headOf (numberOf a) (h .n)) (stringsBytes h ++ banksBytes (h .banks)) (head-bytes a (h .n))
-    (both (stringsBytes h) (banksBytes (h .banks)) (strings-bytes h) (banks-bytes (h .banks)))
+    let strings : List ℕ = stringsBytes (reportedFail h) (reportedClose h) in
+    both (headOf (numberOf a) (h .n)) (strings ++ banksBytes (h .banks)) (head-bytes a (h .n))
+    (both strings (banksBytes (h .banks)) (strings-bytes (reportedFail h) (reportedClose h)) (banks-bytes (h .banks)))
 
 pub report-bytes : (a : Answer) (h : Hall) (k : ℕ) → getD (reportOf a h) k 0 < 256
 report-bytes a h k = at (reportOf a h) (report-all a h) k

@@ -10,20 +10,22 @@ use Rattle.cycle.specs.declared.answer.Answer.{Answer}
 use Rattle.cycle.specs.declared.banks.Bank.{Bank}
 use Rattle.cycle.specs.declared.hall.Hall.{Hall}
 use Rattle.feed.specs.Size.{stringsFrom, stringPart, balanceAt, lesserLength, reportLength}
-use Rattle.feed.specs.Report.{headOf, stringBytes, stringShown, stringsBytes, lesserShown, lesserBytes, banksBytes, reportOf}
+use Rattle.feed.specs.Report.{headOf, stringBytes, stringsBytes, lesserShown, lesserBytes, banksBytes, reportBy}
+use Rattle.feed.specs.Report.{reportedFail, reportedClose, reportOf}
 use Rattle.feed.proofs.Reports.Parts.{parts-length}
 
 pub head-length : (answer n : ℕ) → length (headOf answer n) ≡ stringsFrom
 unfolding headOf
 head-length answer n = refl
 
-pub string-length : (h : Hall) (s : ℕ) → length (stringShown h s) ≡ stringPart
+pub string-length : (fail close : ℕ) → length (stringBytes fail close) ≡ stringPart
 unfolding stringBytes
-string-length h s = refl
+string-length fail close = refl
 
-pub strings-length : (h : Hall) → length (stringsBytes h) ≡ stringPart * stringCount
+pub strings-length : (fail close : ℕ → ℕ) → length (stringsBytes fail close) ≡ stringPart * stringCount
 unfolding stringsBytes
-strings-length h = parts-length stringPart (stringShown h) (string-length h) stringCount
+strings-length fail close =
+    parts-length stringPart (λ s. stringBytes (fail s) (close s)) (λ s. string-length (fail s) (close s)) stringCount
 
 pub lesser-length : (banks : List Bank) → length (lesserBytes banks) ≡ lesserLength * moduleCount
 unfolding lesserBytes
@@ -34,19 +36,22 @@ unfolding banksBytes
 banks-length banks = ap suc (lesser-length banks)
 
 -- what stands before the balance byte
-pub front-length : (answer n : ℕ) (h : Hall) → length (headOf answer n ++ stringsBytes h) ≡ balanceAt
-front-length answer n h =
-    length-append (headOf answer n) (stringsBytes h)
-    ∙ omega (arith, head-length answer n, strings-length h)
+pub front-length : (answer n : ℕ) (fail close : ℕ → ℕ) → length (headOf answer n ++ stringsBytes fail close) ≡ balanceAt
+front-length answer n fail close =
+    length-append (headOf answer n) (stringsBytes fail close)
+    ∙ omega (arith, head-length answer n, strings-length fail close)
+
+pub by-length : (a : Answer) (n : ℕ) (fail close : ℕ → ℕ) (banks : List Bank) → length (reportBy a n fail close banks) ≡ reportLength
+by-length a n fail close banks =
+    length-append (headOf (numberOf a) n) (stringsBytes fail close ++ banksBytes banks)
+    ∙ omega (
+      arith,
+      length-append (stringsBytes fail close) (banksBytes banks),
+      head-length (numberOf a) n,
+      strings-length fail close,
+      banks-length banks,
+    )
 
 pub report-length : (a : Answer) (h : Hall) → length (reportOf a h) ≡ reportLength
 unfolding reportOf
-report-length a h =
-    length-append (headOf (numberOf a) (h .n)) (stringsBytes h ++ banksBytes (h .banks))
-    ∙ omega (
-      arith,
-      length-append (stringsBytes h) (banksBytes (h .banks)),
-      head-length (numberOf a) (h .n),
-      strings-length h,
-      banks-length (h .banks),
-    )
+report-length a h = by-length a (h .n) (reportedFail h) (reportedClose h) (h .banks)

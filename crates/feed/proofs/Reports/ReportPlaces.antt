@@ -14,8 +14,8 @@ use Rattle.cycle.specs.declared.answer.Answer.{Answer}
 use Rattle.cycle.specs.declared.hall.Hall.{Hall}
 use Rattle.feed.specs.Size.{wordLength, answerAt, countAt, stringsFrom, stringPart, balanceAt, lesserFrom, lesserLength}
 use Rattle.feed.specs.Bytes.{two, four, inTwo}
-use Rattle.feed.specs.Report.{headOf, stringBytes, reportedFail, stringShown, stringsBytes, lesserShown, balanceOf, lesserBytes}
-use Rattle.feed.specs.Report.{banksBytes, reportOf}
+use Rattle.feed.specs.Report.{headOf, stringBytes, stringsBytes, lesserShown, balanceOf, lesserBytes}
+use Rattle.feed.specs.Report.{banksBytes, reportedFail, reportedClose, reportOf}
 use Rattle.feed.proofs.Records.NumbersInBytes.{two-inTwo, four-inFour, two-stands, four-stands}
 use Rattle.feed.proofs.Reports.Parts.{getD-past, parts-at}
 use Rattle.feed.proofs.Reports.ReportLengths.{head-length, string-length, strings-length, front-length}
@@ -33,21 +33,23 @@ n-at a h l = four-inFour (h .n) l
 -- byte i of string s's part
 pub string-at : (a : Answer) (h : Hall) (s i : ℕ) → s < stringCount → i < stringPart
     → getD (reportOf a h) (stringsFrom + stringPart * s + i) 0
-    ≡ getD (stringShown h s) i 0
+    ≡ getD (stringBytes (reportedFail h s) (reportedClose h s)) i 0
 unfolding reportOf stringsBytes
 string-at a h s i l j =
+    let strings : List ℕ = stringsBytes (reportedFail h) (reportedClose h) in
     ap (λ (n : ℕ). getD (reportOf a h) n 0) (add-assoc stringsFrom (stringPart * s) i)
-    ∙ getD-past (headOf (numberOf a) (h .n)) (stringsBytes h ++ banksBytes (h .banks)) stringsFrom (stringPart * s + i)
+    ∙ getD-past (headOf (numberOf a) (h .n)) (strings ++ banksBytes (h .banks)) stringsFrom (stringPart * s + i)
     (head-length (numberOf a) (h .n))
-    ∙ List·getD-append (stringsBytes h) (banksBytes (h .banks)) 0 (stringPart * s + i)
-    (omega (arith, strings-length h))
-    ∙ parts-at stringPart (stringShown h) (string-length h) stringCount s i l j
+    ∙ List·getD-append strings (banksBytes (h .banks)) 0 (stringPart * s + i)
+    (omega (arith, strings-length (reportedFail h) (reportedClose h)))
+    ∙ parts-at stringPart (λ t. stringBytes (reportedFail h t) (reportedClose h t))
+    (λ t. string-length (reportedFail h t) (reportedClose h t)) stringCount s i l j
 
 pub fail-at : (a : Answer) (h : Hall) (s : ℕ) → s < stringCount → reportedFail h s < 2 ^ 32
     → four (reportOf a h) (stringsFrom + stringPart * s) ≡ reportedFail h s
 unfolding stringBytes
 fail-at a h s l b =
-    four-stands (reportOf a h) (stringShown h s) (stringsFrom + stringPart * s)
+    four-stands (reportOf a h) (stringBytes (reportedFail h s) (reportedClose h s)) (stringsFrom + stringPart * s)
     (λ i j. string-at a h s i l (omega arith))
     ∙ four-inFour (reportedFail h s) b
 
@@ -62,9 +64,9 @@ bank-in : (a : Answer) (h : Hall) (i : ℕ) → getD (reportOf a h) (balanceAt +
 unfolding reportOf
 bank-in a h i =
     ap (λ (t : List ℕ). getD t (balanceAt + i) 0)
-    (sym (append-assoc (headOf (numberOf a) (h .n)) (stringsBytes h) (banksBytes (h .banks))))
-    ∙ getD-past (headOf (numberOf a) (h .n) ++ stringsBytes h) (banksBytes (h .banks)) balanceAt i
-    (front-length (numberOf a) (h .n) h)
+    (sym (append-assoc (headOf (numberOf a) (h .n)) (stringsBytes (reportedFail h) (reportedClose h)) (banksBytes (h .banks))))
+    ∙ getD-past (headOf (numberOf a) (h .n) ++ stringsBytes (reportedFail h) (reportedClose h)) (banksBytes (h .banks)) balanceAt i
+    (front-length (numberOf a) (h .n) (reportedFail h) (reportedClose h))
 
 pub balance-at : (a : Answer) (h : Hall) → getD (reportOf a h) balanceAt 0 ≡ balanceOf moduleCount (h .banks) % 256
 unfolding banksBytes

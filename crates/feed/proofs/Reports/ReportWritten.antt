@@ -1,18 +1,24 @@
 -- The report written into an outbox, part by part. Assumes nothing.
-use mathlib.Core.Path.{_≡_, refl, ap, ap₂, _∙_}
+use mathlib.Core.Path.{_≡_, refl, sym, ap, ap₂, _∙_}
+use mathlib.Core.Bool.{true, false}
 use mathlib.Core.List.{List, [], _∷_, _++_, append-assoc}
-use Prim.Native.Nat.{ℕ, _≤_, _%_}
+use Prim.Native.Nat.{ℕ, _≤_, _<_, _%_}
+use borrow.Author.Tests.{le-leb, lt-leb}
 use native.Mathlib.Omega.{arith}
 use borrow.Rule.Slice.PartMut.{putMid}
 use lib.ListN.{length, set, take, drop}
 use lib.Seq.{take-suc-set, drop-set-lt}
-use Rattle.cycle.specs.Size.{moduleCount}
+use Rattle.cycle.specs.Size.{stringCount, moduleCount}
 use Rattle.cycle.specs.Answers.{numberOf}
 use Rattle.cycle.specs.declared.answer.Answer.{Answer}
 use Rattle.cycle.specs.declared.banks.Bank.{Bank}
 use Rattle.cycle.specs.declared.hall.Hall.{Hall}
 use Rattle.feed.specs.Size.{stringsFrom, balanceAt, lesserFrom, reportLength}
-use Rattle.feed.specs.Report.{headOf, stringsBytes, balanceOf, lesserBytes, banksBytes, reportOf}
+use Rattle.feed.specs.Report.{headOf, stringBytes, stringsBytes, balanceOf, lesserBytes, banksBytes, reportBy}
+use Rattle.feed.specs.Report.{reportedFail, reportedClose, reportOf, reportShown, fitsIn, intoOutbox}
+use Rattle.feed.specs.Inside.Showing.{shownOf}
+use Rattle.feed.proofs.Records.Tables.{table-at}
+use Rattle.feed.proofs.Reports.Parts.{parts-same}
 use Rattle.feed.proofs.Reports.Written.{put-next, next-written}
 use Rattle.feed.proofs.Reports.ReportLengths.{head-length, front-length}
 
@@ -31,21 +37,40 @@ banks-written d y b banks l e f =
     ∙ append-assoc (take balanceAt d) (v ∷ []) (q ++ drop reportLength d)
 
 -- the whole: x after the head, y after the strings, z after the banks
-pub report-written : (a : Answer) (h : Hall) (n : ℕ) (d p x y z : List ℕ) → n ≡ numberOf a → p ≡ headOf n (h .n)
+pub report-written : (a : Answer) (k : ℕ) (fail close : ℕ → ℕ) (banks : List Bank) (n : ℕ) (d p x y z : List ℕ) → n ≡ numberOf a
+    → p ≡ headOf n k
     → x ≡ putMid 0 stringsFrom d p
-    → y ≡ take stringsFrom x ++ (stringsBytes h ++ drop balanceAt x)
-    → z ≡ take balanceAt y ++ (banksBytes (h .banks) ++ drop reportLength y)
-    → z ≡ reportOf a h ++ drop reportLength d
-unfolding reportOf
-report-written a h n d p x y z en ep ex ey ez =
-    let q = headOf (numberOf a) (h .n) in
-    let s = stringsBytes h in
-    let b = banksBytes (h .banks) in
-    let fp : p ≡ q = ep ∙ ap (λ (k : ℕ). headOf k (h .n)) en in
+    → y ≡ take stringsFrom x ++ (stringsBytes fail close ++ drop balanceAt x)
+    → z ≡ take balanceAt y ++ (banksBytes banks ++ drop reportLength y)
+    → z ≡ reportBy a k fail close banks ++ drop reportLength d
+report-written a k fail close banks n d p x y z en ep ex ey ez =
+    let q = headOf (numberOf a) k in
+    let s = stringsBytes fail close in
+    let b = banksBytes banks in
+    let fp : p ≡ q = ep ∙ ap (λ (j : ℕ). headOf j k) en in
     let fx : x ≡ q ++ drop stringsFrom d =
     ex ∙ put-next [] d p 0 stringsFrom refl ∙ ap (λ (t : List ℕ). t ++ drop stringsFrom d) fp in
-    let lq : length q ≡ stringsFrom = head-length (numberOf a) (h .n) in
+    let lq : length q ≡ stringsFrom = head-length (numberOf a) k in
     let fy : y ≡ (q ++ s) ++ drop balanceAt d = next-written d q s x y stringsFrom balanceAt lq (omega arith) fx ey in
-    let ly : length (q ++ s) ≡ balanceAt = front-length (numberOf a) (h .n) h in
+    let ly : length (q ++ s) ≡ balanceAt = front-length (numberOf a) k fail close in
     next-written d (q ++ s) b y z balanceAt reportLength ly (omega arith) fy ez
     ∙ ap (λ (t : List ℕ). t ++ drop reportLength d) (append-assoc q s b)
+
+-- the report of what is shown of a hall is the hall's
+pub shown-same : (a : Answer) (h : Hall) → reportShown a (shownOf h) ≡ reportOf a h
+unfolding reportOf shownOf stringsBytes
+shown-same a h =
+    ap (λ (t : List ℕ). headOf (numberOf a) (h .n) ++ (t ++ banksBytes (h .banks)))
+    (parts-same _ _ stringCount
+    (λ s l.
+    ap₂ stringBytes (table-at (reportedFail h) 0 stringCount s l) (table-at (reportedClose h) 0 stringCount s l)))
+
+-- ---- into an outbox of any length
+
+module _ (report out : List ℕ) where
+  pub too-short : length out < reportLength → (false ≡ fitsIn out) × (out ≡ intoOutbox report out)
+  too-short l = let e : fitsIn out ≡ false = lt-leb reportLength (length out) l in (sym e, rw e refl)
+
+  pub fits : (x : List ℕ) → reportLength ≤ length out → x ≡ report ++ drop reportLength out
+      → (true ≡ fitsIn out) × (x ≡ intoOutbox report out)
+  fits x l q = let e : fitsIn out ≡ true = le-leb reportLength (length out) l in (sym e, q ∙ rw e refl)

@@ -1,6 +1,6 @@
 -- `watch::watched` meets its contract: there are a feed and calls that hand in what has been read, and the monitor is the one after them.
 -- Assumes nothing.
-use mathlib.Core.Path.{_≡_, refl, sym, ap, _∙_}
+use mathlib.Core.Path.{_≡_, refl, sym, ap, subst, _∙_}
 use mathlib.Core.Logic.{⊎-elim, inl, inr}
 use borrow.Author.Needs.{needs}
 use Prim.Native.Nat.{ℕ, _+_, _-_, _≤_, _%_, _^_}
@@ -10,10 +10,12 @@ use lib.Seq.{length-take-le}
 use Rattle.feed.specs.Size.{mapLength, outboxNeeded}
 use Rattle.feed.proofs.Calls.RunLaws.{runs-within}
 use Rattle.feed.proofs.Calls.Running.{written-within}
-use Rattle.watch.specs.Lines.{largestCount}
+use Rattle.lines.specs.Lines.{largestCount}
+use Rattle.lines.specs.Ending.{EndedBy}
+use Rattle.lines.specs.declared.line.Line.the-variants.{Open, NoRoom}
+use Rattle.lines.proofs.Failures.{not-true}
+use Rattle.lines.proofs.EndingTold.{ended-turned, ended-at-line}
 use Rattle.watch.specs.Watched.{Watched}
-use Rattle.watch.proofs.Failures.{not-true}
-use Rattle.watch.proofs.Ending.{ended-turned}
 use Rattle.watch.proofs.Watching.{begins, reported, goes-on, goes-on-read, at-places}
 use Rattle.watch.proofs.watched.Statement.{statement}
 use Rattle.watch.proofs.watched.Tie as tie
@@ -74,30 +76,19 @@ write-reports-requires c κs =
     reported (at-loop .before .before .before .args .start) (l .m) (l .turns) (l .fed) (l .told) (l .at) (l .n) (l .input) (l .out)
     (at-run .run .result) (at-run .run .last .1 .1 .0) (l .inv .5) (room at-run) (at-run .run .ensures)
 
-ended-at-requires : tie.Need-ended-at-requires Inv-loop μ-loop
-ended-at-requires c κs =
-    let r = c .before .write-reports in
-    (inr refl, (r .ensures .told .givenUp, λ e. ⊎-elim (λ w. omega arith) (λ w. omega arith) (rw e at (c .match .keys2))))
-
 returns : tie.Need-returns Inv-loop μ-loop
-returns c = c .ended-at .ensures
+returns c =
+    let at-match = c .before in
+    let r = at-match .before .write-reports in
+    let shut : r .result .line ≡ Open → ⊥ = λ e.
+    ⊎-elim (λ w. omega arith) (⊎-elim (λ w. omega arith) (λ w. omega arith)) (rw e at (at-match .match .keys2)) in
+    subst EndedBy (sym (c .ended-at .ensures)) (ended-at-line _ _ _ (inr refl) (r .ensures .told .givenUp) shut (r .ensures .full))
 
 add-at : tie.Need-add-at Inv-loop μ-loop
 add-at c =
     let at-run = c .before .before .before .before .before .before .before .before .before .before .before in
     let at-loop = at-run .before .before .before .before .before in
     omega (arith, run-used at-run, at-loop .loop .inv)
-
-read-ready-requires : tie.Need-read-ready-requires Inv-loop μ-loop
-read-ready-requires c κs =
-    let at-loop = c .before .before .before .before .before .before .before .before .before .before .before .before .before .before
-    .before .before .before .before .before in
-    omega (arith, at-loop .loop .inv .0, at-loop .before .before .before .pre .1 .0)
-
-ended-at-requires-2 : tie.Need-ended-at-requires-2 Inv-loop μ-loop
-ended-at-requires-2 c κs =
-    let r = c .before .before .before .read-ready in
-    (inl refl, (r .ensures .told .givenUp, λ e. ⊎-elim (λ w. omega arith) (λ w. omega arith) (rw e at (c .match2 .keys2))))
 
 -- the run whose bytes were used up before a read
 abbrev before-read : tie.After-read-ready Inv-loop μ-loop → tie.After-run Inv-loop μ-loop
@@ -114,7 +105,16 @@ same-length-4 c =
     at-run .run .kept .1 .1 .0 ∙ at-run .before .before .before .before .before .loop .inv .1
 
 returns-2 : tie.Need-returns-2 Inv-loop μ-loop
-returns-2 c = c .ended-at2 .ensures
+returns-2 c =
+    let at-match = c .before in
+    let at-read = at-match .before .before .before in
+    let r = at-read .read-ready in
+    let shut : r .result .line ≡ Open → ⊥ = λ e.
+    ⊎-elim (λ w. omega arith) (⊎-elim (λ w. omega arith) (λ w. omega arith)) (rw e at (at-match .match2 .keys2)) in
+    let at-loop = before-read at-read .before .before .before .before .before in
+    let room : r .result .line ≡ NoRoom → ⊥ = λ e.
+    omega (arith, r .ensures .full e, r .kept .0, at-loop .loop .inv .0, at-loop .before .before .before .pre .1 .0) in
+    subst EndedBy (sym (c .ended-at2 .ensures)) (ended-at-line _ _ _ (inl refl) (r .ensures .told .givenUp) shut room)
 
 add-turns : tie.Need-add-turns Inv-loop μ-loop
 add-turns c =
@@ -175,6 +175,6 @@ watched-spec =
     tie.close
     (tie.spec Inv-loop μ-loop (λ c. search needs) loop-holds (λ c. search needs) (λ c. search needs) (λ c. search needs)
     (λ c κs. search needs) (λ c. search needs) (λ c. search needs) (λ c. search needs) slice-reshare-prefix-write-reports
-    slice-aggregate-write-reports write-reports-requires (λ c. search needs) ended-at-requires (λ c. search needs) (λ c. search needs)
-    returns (λ c κs. search needs) add-at read-ready-requires (λ c. search needs) ended-at-requires-2 same-length-3 same-length-4
+    slice-aggregate-write-reports write-reports-requires (λ c. search needs) (λ c κs. search needs) (λ c. search needs) (λ c. search needs)
+    returns (λ c κs. search needs) add-at (λ c κs. search needs) (λ c. search needs) (λ c κs. search needs) same-length-3 same-length-4
     returns-2 (λ c κs. search needs) add-turns loop-less loop-again (λ c. search needs) (λ c. search needs) returns-3)

@@ -1,5 +1,5 @@
-//! `compare WATCH CALLS [--feeds N] [--bytes TOTAL] [--halls N]`: runs two programs over seeded input and
-//! demands every byte of their output to be the reference's.
+//! `compare WATCH CALLS [--also WATCH].. [--feeds N] [--bytes TOTAL] [--halls N]`: runs programs over seeded
+//! input and demands every byte of their output to be the reference's. All of WATCH run over the same input.
 
 use reference::both_ways_cases::BothWaysCases;
 use reference::feed::{masks_bytes, run, MASKS_LENGTH};
@@ -10,7 +10,7 @@ use reference::leak_cases::LeakCases;
 use reference::process::{cut, run_file, run_pieces};
 use reference::random::Random;
 use reference::report::REPORT_LENGTH;
-use reference::score::{same, Score};
+use reference::score::{Program, Score};
 use reference::script;
 use reference::tally::Tally;
 use reference::world::refused_masks;
@@ -29,45 +29,62 @@ const HALLS_AT_ONCE: u64 = 250;
 const LEAST_MET: u64 = 25;
 
 fn main() -> ExitCode {
-    let mut arguments = std::env::args().skip(1);
-    let (Some(watch), Some(calls), Some((number, bytes, halls))) =
-        (arguments.next(), arguments.next(), amounts(arguments))
-    else {
-        eprintln!("usage: compare WATCH CALLS [--feeds N] [--bytes TOTAL] [--halls N]");
+    let Some(mut asked) = Asked::read(std::env::args().skip(1)) else {
+        eprintln!("usage: compare WATCH CALLS [--also WATCH].. [--feeds N] [--bytes TOTAL] [--halls N]");
         return ExitCode::FAILURE;
     };
+    let (watches, calls) = (&mut asked.watches, &mut asked.calls);
     let begin = Instant::now();
     let mut score = Score::default();
-    let (tally, leaks_of_feeds, both_ways_of_feeds) = feeds(&watch, number, bytes, &mut score);
-    let bad_inputs = bad_inputs(&watch, &mut score);
-    let answers = scripts(&calls, &mut score);
-    let (cases, leaks_of_halls, both_ways_of_halls) = foreign_halls(&calls, halls, &mut score);
+    let (tally, leaks_of_feeds, both_ways_of_feeds) = feeds(watches, asked.feeds, asked.bytes, &mut score);
+    let bad_inputs = bad_inputs(watches, &mut score);
+    let answers = scripts(calls, &mut score);
+    let (cases, leaks_of_halls, both_ways_of_halls) = foreign_halls(calls, asked.halls, &mut score);
     let seconds = begin.elapsed().as_secs_f64();
     print!("leaks of feeds, by the fuel word, by the oxidizer word, by both:\n{leaks_of_feeds}");
     print!("leaks of halls:\n{leaks_of_halls}");
     print!("jets named both ways in feeds:\n{both_ways_of_feeds}");
     print!("jets named both ways in halls:\n{both_ways_of_halls}");
     println!("{tally:?}; {bad_inputs} inputs of noise or bad masks; {answers}; {cases:?}; {seconds:.1} s");
+    watches.iter().chain([&*calls]).for_each(|program| println!("{program}"));
     score.end()
 }
 
-/// How many feeds, how many bytes of them in all, and how many foreign halls.
-fn amounts(mut options: impl Iterator<Item = String>) -> Option<(u64, u64, u64)> {
-    let (mut feeds, mut bytes, mut halls) = (FEEDS, BYTES, HALLS);
-    while let Some(name) = options.next() {
-        let place = match name.as_str() {
-            "--feeds" => &mut feeds,
-            "--bytes" => &mut bytes,
-            "--halls" => &mut halls,
-            _ => return None,
-        };
-        *place = options.next()?.parse().ok()?;
+/// The programs, how many feeds, how many bytes of them in all, and how many foreign halls.
+struct Asked {
+    watches: Vec<Program>,
+    calls: Program,
+    feeds: u64,
+    bytes: u64,
+    halls: u64,
+}
+
+impl Asked {
+    fn read(mut arguments: impl Iterator<Item = String>) -> Option<Asked> {
+        let watches = vec![Program::at(&arguments.next()?)];
+        let calls = Program::at(&arguments.next()?);
+        let mut asked = Asked { watches, calls, feeds: FEEDS, bytes: BYTES, halls: HALLS };
+        while let Some(name) = arguments.next() {
+            let value = arguments.next()?;
+            match name.as_str() {
+                "--also" => asked.watches.push(Program::at(&value)),
+                "--feeds" => asked.feeds = value.parse().ok()?,
+                "--bytes" => asked.bytes = value.parse().ok()?,
+                "--halls" => asked.halls = value.parse().ok()?,
+                _ => return None,
+            }
+        }
+        (asked.feeds > 0).then_some(asked)
     }
-    (feeds > 0).then_some((feeds, bytes, halls))
 }
 
 /// Seeded nights, each whole from a file or a pipe, every third also in pieces.
-fn feeds(watch: &str, number: u64, total: u64, score: &mut Score) -> (Tally, LeakCases, BothWaysCases) {
+fn feeds(
+    watches: &mut [Program],
+    number: u64,
+    total: u64,
+    score: &mut Score,
+) -> (Tally, LeakCases, BothWaysCases) {
     let (mut tally, mut leaks, mut both_ways) =
         (Tally::default(), LeakCases::default(), BothWaysCases::of_feeds());
     let share = (total / number) as usize + 1;
@@ -80,16 +97,18 @@ fn feeds(watch: &str, number: u64, total: u64, score: &mut Score) -> (Tally, Lea
         leaks.add_feed(&bytes);
         both_ways.add_feed(&bytes);
         let name = format!("feed of seed {seed}, size {size}");
-        if seed % 3 == 0 {
-            let pieces = cut(&bytes, &mut Random(!seed));
-            let output = run_pieces(watch, pieces, LIMIT);
-            score.check(&format!("{name}, in pieces"), same(output, "report", &reports));
+        for watch in &mut *watches {
+            if seed % 3 == 0 {
+                let pieces = cut(&bytes, &mut Random(!seed));
+                let run = |watch: &str| run_pieces(watch, pieces, LIMIT);
+                watch.check(score, &format!("{name}, in pieces"), ("report", &reports), run);
+            }
+            let run = |watch: &str| match seed % 2 {
+                0 => run_file(watch, &bytes, LIMIT),
+                _ => run_pieces(watch, vec![bytes.clone()], LIMIT),
+            };
+            watch.check(score, &format!("{name}, whole"), ("report", &reports), run);
         }
-        let output = match seed % 2 {
-            0 => run_file(watch, &bytes, LIMIT),
-            _ => run_pieces(watch, vec![bytes], LIMIT),
-        };
-        score.check(&format!("{name}, whole"), same(output, "report", &reports));
     }
     if number >= FEEDS && total >= BYTES {
         score.check("leaks of the feeds", leaks.each_met(LEAST_MET));
@@ -99,7 +118,7 @@ fn feeds(watch: &str, number: u64, total: u64, score: &mut Score) -> (Tally, Lea
 }
 
 /// Noise, empty input, short and refused masks.
-fn bad_inputs(watch: &str, score: &mut Score) -> usize {
+fn bad_inputs(watches: &mut [Program], score: &mut Score) -> usize {
     let mut inputs: Vec<(String, Vec<u8>)> = Vec::new();
     for length in [0, 1, 2, 16, 62, 63, 64] {
         inputs.push((format!("{length} bytes of masks"), vec![0; length]));
@@ -115,14 +134,17 @@ fn bad_inputs(watch: &str, score: &mut Score) -> usize {
         inputs.push((format!("refused masks of seed {seed}"), refused));
     }
     for (name, input) in &inputs {
-        let output = run_pieces(watch, vec![input.clone()], LIMIT);
-        score.check(name, same(output, "report", &reports(input)));
+        let reports = reports(input);
+        for watch in &mut *watches {
+            let run = |watch: &str| run_pieces(watch, vec![input.clone()], LIMIT);
+            watch.check(score, name, ("report", &reports), run);
+        }
     }
     inputs.len()
 }
 
 /// Single calls. Gives their number, by what they answered.
-fn scripts(calls: &str, score: &mut Score) -> String {
+fn scripts(calls: &mut Program, score: &mut Score) -> String {
     let mut answers = [0; 256];
     let mut starts = 0;
     for seed in 0..CALL_INPUTS {
@@ -134,7 +156,7 @@ fn scripts(calls: &str, score: &mut Score) -> String {
                 _ => answers[usize::from(words[0])] += 1,
             }
         }
-        score.check(&format!("calls of seed {seed}"), plays(calls, input));
+        plays(calls, score, &format!("calls of seed {seed}"), input);
     }
     let all: u64 = answers.iter().sum();
     format!(
@@ -148,7 +170,7 @@ fn scripts(calls: &str, score: &mut Score) -> String {
 
 /// Halls that no run reaches, many to an input. Where one differs, its input is tried hall by hall, to
 /// name it.
-fn foreign_halls(calls: &str, number: u64, score: &mut Score) -> (Cases, LeakCases, BothWaysCases) {
+fn foreign_halls(calls: &mut Program, number: u64, score: &mut Score) -> (Cases, LeakCases, BothWaysCases) {
     let (mut cases, mut leaks, mut both_ways) =
         (Cases::default(), LeakCases::default(), BothWaysCases::of_halls());
     let mut begin = 0;
@@ -156,12 +178,9 @@ fn foreign_halls(calls: &str, number: u64, score: &mut Score) -> (Cases, LeakCas
         let end = number.min(begin + HALLS_AT_ONCE);
         let script = |seed| foreign::script(seed, &mut cases, &mut leaks, &mut both_ways);
         let scripts: Vec<Vec<u8>> = (begin..end).map(script).collect();
-        let all = plays(calls, scripts.concat());
-        let differs = all.is_err();
-        score.check(&format!("halls of seeds {begin} to {end}"), all);
-        if differs {
+        if !plays(calls, score, &format!("halls of seeds {begin} to {end}"), scripts.concat()) {
             for (seed, script) in (begin..end).zip(scripts) {
-                score.check(&format!("hall of seed {seed}"), plays(calls, script));
+                plays(calls, score, &format!("hall of seed {seed}"), script);
             }
         }
         begin = end;
@@ -173,9 +192,9 @@ fn foreign_halls(calls: &str, number: u64, score: &mut Score) -> (Cases, LeakCas
     (cases, leaks, both_ways)
 }
 
-fn plays(calls: &str, input: Vec<u8>) -> Result<(), String> {
+fn plays(calls: &mut Program, score: &mut Score, name: &str, input: Vec<u8>) -> bool {
     let said = script::play(&input);
-    same(run_pieces(calls, vec![input], LIMIT), "start or call", &said)
+    calls.check(score, name, ("start or call", &said), |calls| run_pieces(calls, vec![input], LIMIT))
 }
 
 fn reports(input: &[u8]) -> Vec<Vec<u8>> {

@@ -1,6 +1,6 @@
-//! `compare_writes WRITES WATCH [--requests N]`: runs a program that writes records over seeded
+//! `compare_writes WRITES WATCH.. [--requests N]`: runs a program that writes records over seeded
 //! requests and demands every byte of its output to be the reference's. Then records that it
-//! writes are fed to a monitor, whose reports must be those that their values bring.
+//! writes are fed to each monitor, whose reports must be those that their values bring.
 
 use reference::dispatch::Dispatch;
 use reference::feed::masks_bytes;
@@ -9,7 +9,7 @@ use reference::random::Random;
 use reference::request::{play, Request};
 use reference::request_cases::Cases;
 use reference::request_input::{broken_inputs, request};
-use reference::score::{same, Score};
+use reference::score::{Program, Score};
 use reference::tally::Tally;
 use reference::writer::WRITTEN;
 use std::process::ExitCode;
@@ -27,28 +27,30 @@ const RECORDS_OF_A_NIGHT: usize = 500;
 fn main() -> ExitCode {
     let arguments: Vec<String> = std::env::args().skip(1).collect();
     let arguments: Vec<&str> = arguments.iter().map(String::as_str).collect();
-    let (programs, number) = match arguments[..] {
-        [writes, watch] => (Some((writes, watch)), Ok(REQUESTS)),
-        [writes, watch, "--requests", number] => (Some((writes, watch)), number.parse()),
-        _ => (None, Ok(0)),
+    let (programs, number) = match &arguments[..] {
+        [programs @ .., "--requests", number] => (programs, number.parse()),
+        programs => (programs, Ok(REQUESTS)),
     };
-    let (Some((writes, watch)), Ok(number)) = (programs, number) else {
-        eprintln!("usage: compare_writes WRITES WATCH [--requests N]");
+    let ([writes, watches @ ..], Ok(number), false) = (programs, number, programs.len() < 2) else {
+        eprintln!("usage: compare_writes WRITES WATCH.. [--requests N]");
         return ExitCode::FAILURE;
     };
+    let mut writes = Program::at(writes);
+    let mut watches: Vec<Program> = watches.iter().map(|watch| Program::at(watch)).collect();
     let begin = Instant::now();
     let mut score = Score::default();
-    let cases = requests(writes, number, &mut score);
-    let broken = stops(writes, &mut score);
-    let tally = nights(writes, watch, &mut score);
+    let cases = requests(&mut writes, number, &mut score);
+    let broken = stops(&mut writes, &mut score);
+    let tally = nights(&writes, &mut watches, &mut score);
     let seconds = begin.elapsed().as_secs_f64();
     print!("{cases}");
     println!("{number} requests; {broken} inputs to stop in; nights: {tally:?}; {seconds:.1} s");
+    watches.iter().chain([&writes]).for_each(|program| println!("{program}"));
     score.end()
 }
 
 /// Seeded requests, few or many to an input.
-fn requests(writes: &str, number: u64, score: &mut Score) -> Cases {
+fn requests(writes: &mut Program, number: u64, score: &mut Score) -> Cases {
     let mut cases = Cases::default();
     let (mut begin, mut turn) = (0, 0);
     while begin < number {
@@ -59,7 +61,7 @@ fn requests(writes: &str, number: u64, score: &mut Score) -> Cases {
         let input = requests.iter().flat_map(Request::bytes).collect();
         // The number of the request that differs counts from the first seed.
         let name = format!("requests of seeds {begin} to {end}");
-        score.check(&name, same(run(writes, input, turn), "request", &said));
+        writes.check(score, &name, ("request", &said), |writes| run(writes, input, turn));
         (begin, turn) = (end, turn + 1);
     }
     score.check("cases of the requests", cases.each_met(LEAST_MET));
@@ -67,22 +69,23 @@ fn requests(writes: &str, number: u64, score: &mut Score) -> Cases {
 }
 
 /// Inputs in which the program must stop.
-fn stops(writes: &str, score: &mut Score) -> usize {
+fn stops(writes: &mut Program, score: &mut Score) -> usize {
     let inputs = broken_inputs();
     for (name, input) in &inputs {
         let said = play(input);
-        score.check(name, same(run_pieces(writes, vec![input.clone()], LIMIT), "request", &said));
+        let run = |writes: &str| run_pieces(writes, vec![input.clone()], LIMIT);
+        writes.check(score, name, ("request", &said), run);
     }
     inputs.len()
 }
 
-/// Records as WRITES writes them, to WATCH.
-fn nights(writes: &str, watch: &str, score: &mut Score) -> Tally {
+/// Records as WRITES writes them, to each WATCH.
+fn nights(writes: &Program, watches: &mut [Program], score: &mut Score) -> Tally {
     let mut tally = Tally::default();
     for seed in 0..NIGHTS {
         let mut night = Dispatch::of(seed, RECORDS_OF_A_NIGHT);
         let name = format!("written night of seed {seed}");
-        let written = match written(writes, &night.requests) {
+        let written = match written(writes.path(), &night.requests) {
             Ok(written) => written,
             Err(why) => {
                 score.check(&name, Err(why));
@@ -93,7 +96,10 @@ fn nights(writes: &str, watch: &str, score: &mut Score) -> Tally {
         let reports = night.reports();
         tally.add(feed.len(), noisy, &reports);
         let input = [&masks_bytes(&night.masks)[..], &feed].concat();
-        score.check(&name, same(run(watch, input, seed as usize / 3), "report", &reports));
+        for watch in &mut *watches {
+            let run = |watch: &str| run(watch, input.clone(), seed as usize / 3);
+            watch.check(score, &name, ("report", &reports), run);
+        }
     }
     score.check("what the nights brought", lively(&tally));
     tally

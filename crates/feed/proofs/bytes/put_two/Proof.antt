@@ -1,10 +1,10 @@
 -- `feed::bytes::put_two` meets its contract. Assumes nothing.
 use borrow.Author.Needs.{needs}
-use mathlib.Core.Path.{sym, _∙_}
+use mathlib.Core.Path.{sym, ap, _∙_}
 use native.Mathlib.Omega.{arith}
 use Rattle.feed.specs.Bytes.{inTwo}
 use Rattle.feed.specs.Inside.LowFirst.{lowTwo}
-use Rattle.feed.proofs.Records.NumbersInBytes.{put-over, put-none}
+use Rattle.feed.proofs.Records.NumbersInBytes.{put-over, put-none, two-turned}
 use Rattle.feed.proofs.Reports.Written.{sets-all}
 use Rattle.feed.proofs.bytes.put_two.Statement.{statement}
 use Rattle.feed.proofs.bytes.put_two.Tie as tie
@@ -16,7 +16,8 @@ returns-2 : tie.Need-returns-2
 returns-2 c =
     let a = c .before .before .before .args in
     sets-all (a .s .now) (lowTwo (c .turned16 .result)) (search needs)
-    ∙ c .turned16 .ensures
+    ∙ ap lowTwo (c .turned16 .ensures)
+    ∙ two-turned (a .x) (search needs)
     ∙ sym (put-over (inTwo (a .x)) (a .s .now) (search needs))
 
 pub put-two-spec : {M : Type 1} → statement M

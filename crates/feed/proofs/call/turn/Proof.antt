@@ -22,17 +22,17 @@ returns : tie.Need-returns
 returns c =
     let at-find = c .before .before .before in
     let a = start at-find .args in
-    turn-none (a .hall) (held at-find) (a .piece .now) (a .out .now) (a .from) (at-find .find .result) (at-find .find .last .0)
-    (short at-find) (start at-find .pre .1 .1 .0) (at-find .find .ensures) (c .if1 .taken)
+    turn-none (held at-find) (a .piece .now) (a .from) (at-find .find .result) (at-find .find .last .0)
+    (short at-find) (start at-find .pre .1 .1 .0) (at-find .find .ensures) (a .hall) (a .out .now) (c .if1 .taken)
 
 step-found-requires : tie.Need-step-found-requires
 step-found-requires c κs =
     let at-if1 = c .before in
     let at-find = at-if1 .before .before .before in
     let a = start at-find .args in (
-      found-fits (a .hall) (held at-find) (a .piece .now) (a .out .now) (a .from) (at-find .find .result) (at-find .find .last .0)
+      found-fits (held at-find) (a .piece .now) (a .from) (at-find .find .result) (at-find .find .last .0)
           (short at-find) (start at-find .pre .1 .1 .0) (at-find .find .ensures) (at-if1 .if1 .left),
-      found-whole (a .hall) (held at-find) (a .piece .now) (a .out .now) (a .from) (at-find .find .result) (at-find .find .last .0)
+      found-whole (held at-find) (a .piece .now) (a .from) (at-find .find .result) (at-find .find .last .0)
           (short at-find) (start at-find .pre .1 .1 .0) (at-find .find .ensures) (at-if1 .if1 .left),
     )
 
@@ -41,9 +41,9 @@ removed-requires c κs =
     let at-if1 = c .before .before .before .before .before .before .before .before in
     let at-find = at-if1 .before .before .before in
     let a = start at-find .args in (
-      count-fits (a .hall) (held at-find) (a .piece .now) (a .out .now) (a .from) (at-find .find .result) (at-find .find .last .0)
+      count-fits (held at-find) (a .piece .now) (a .from) (at-find .find .result) (at-find .find .last .0)
           (short at-find) (start at-find .pre .1 .1 .0) (at-find .find .ensures) (at-if1 .if1 .left),
-      held-fits (a .hall) (held at-find) (a .piece .now) (a .out .now) (a .from) (at-find .find .result) (at-find .find .last .0)
+      held-fits (held at-find) (a .piece .now) (a .from) (at-find .find .result) (at-find .find .last .0)
           (short at-find) (start at-find .pre .1 .1 .0) (at-find .find .ensures) (at-if1 .if1 .left),
     )
 
@@ -55,8 +55,8 @@ returns-2 c =
     let at-if1 = at-step-found .before .before in
     let at-find = at-if1 .before .before .before in
     let a = start at-find .args in
-    turn-some (a .hall) (held at-find) (a .piece .now) (a .out .now) (a .from) (at-find .find .result) (at-find .find .last .0)
-    (short at-find) (start at-find .pre .1 .1 .0) (at-find .find .ensures) (at-if1 .if1 .left)
+    turn-some (held at-find) (a .piece .now) (a .from) (at-find .find .result) (at-find .find .last .0)
+    (short at-find) (start at-find .pre .1 .1 .0) (at-find .find .ensures) (at-if1 .if1 .left) (a .hall) (a .out .now)
     (at-step-found .step-found .result) (at-removed .removed .result) (at-removed .removed .last .0)
     (at-write-report .write-report .last .0)
     (at-step-found .step-found .ensures) (at-removed .removed .ensures .0) (at-removed .removed .ensures .1)

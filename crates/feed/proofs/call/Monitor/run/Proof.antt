@@ -41,9 +41,10 @@ kept c = c .before .before .held-count .result
 abbrev cleared : tie.After-clear Inv-loop μ-loop → List ℕ
 cleared c = putMid (kept c) (storeLength - kept c) (entry c .args .self .held) (c .clear .last .0)
 
-ordered : (c : tie.After-clear Inv-loop μ-loop) → InOrder (entry c .args .self) (cleared c) (kept c)
+ordered : (c : tie.After-clear Inv-loop μ-loop) → InOrder (entry c .args .self .count) (entry c .args .self .held) (cleared c) (kept c)
 ordered c =
-    put-in-order (entry c .args .self) (kept c) (c .clear .last .0) (held-long (entry c)) (c .before .before .held-count .ensures)
+    put-in-order (entry c .args .self .count) (entry c .args .self .held) (kept c) (c .clear .last .0) (held-long (entry c))
+    (c .before .before .held-count .ensures)
     (c .clear .ensures)
 
 -- the loop's run is that of the monitor handed in

@@ -21,7 +21,7 @@ noneOf h = record { answer = NothingSettled; used = 0; monitor = holding h [] }
 
 returns : tie.Need-returns
 unfolding startedFrom
-returns c = rw (eq-eqb _ _ (c .before .before .if1 .taken)) (c .start .ensures ∙ ap startedOver (c .before .masks-of .ensures))
+returns c = rw (eq-eqb _ _ (c .before .before .if1 .taken)) (c .start .ensures ∙ ap startedOver (c .before .masks-of .ensures .0))
 
 returns-2 : tie.Need-returns-2
 unfolding startedFrom

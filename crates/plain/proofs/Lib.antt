@@ -1,0 +1,10 @@
+pub mod Steps
+pub mod Loops
+pub mod Halls
+pub mod Places
+pub mod Calling
+pub mod Jets
+pub mod Opened
+pub mod Corresponding
+pub mod Alike
+pub mod CallsAlike

@@ -1,0 +1,44 @@
+-- `plain::string::PlainString::on_failure` meets its contract. Assumes nothing.
+use borrow.Author.Needs.{needs}
+use mathlib.Core.Path.{_≡_}
+use Prim.Native.Nat.{_≤_, _-_}
+use Rattle.cycle.specs.Size.{jetCount}
+use Rattle.cycle.specs.Each.{each}
+use Rattle.plain.specs.String.{eachOf, jetAt, failRule}
+use Rattle.plain.proofs.Loops.{jets-turned, string-ended}
+use mathlib.Core.Path.{ap, _∙_}
+use mathlib.Core.Bool.{Bool}
+use Rattle.cycle.specs.Jets as jets
+use Rattle.plain.specs.Jet.{by}
+use Rattle.plain.proofs.string.PlainString.on_failure.Statement.{statement}
+use Rattle.plain.proofs.string.PlainString.on_failure.Tie as tie
+
+abbrev Inv-loop : tie.InvT-loop
+Inv-loop self said jets₀ j₀ jets j = (j ≤ jetCount) × (jets ≡ eachOf j (failRule said) jets₀)
+
+abbrev μ-loop : tie.MeasureT-loop
+μ-loop self said jets₀ j₀ jets j = jetCount - j
+
+loop-holds : tie.Need-loop-holds Inv-loop μ-loop
+unfolding eachOf each
+loop-holds c = search needs
+
+loop-again : tie.Need-loop-again Inv-loop μ-loop
+loop-again c =
+    let l = c .before .before .before .before in
+    let at = l .before .loop in
+    let a = l .before .before .before .args in
+    jets-turned (failRule (a .t2)) _ (at .jets) (at .j) _ (l .loop-test .taken) (at .inv .1)
+    (c .on-failure .ensures ∙ ap (λ (bad : Bool). by (jets.onFailure bad) (jetAt (at .jets) (at .j))) (c .before .is-bad .ensures))
+
+returns : tie.Need-returns Inv-loop μ-loop
+returns c =
+    let a = c .before .before .before .args in
+    string-ended (failRule (a .t2)) (a .self) (c .before .loop .jets) (c .before .loop .j) (c .before .loop .inv) (c .loop-test .left)
+
+pub on-failure-spec : {M : Type 1} → statement M
+on-failure-spec =
+    tie.close
+    (tie.spec Inv-loop μ-loop loop-holds (λ c. search needs) (λ c. search needs) (λ c. search needs) (λ c. search needs) (λ
+    c κs. search needs) (λ c κs. search needs) (λ c. search needs) (λ c. search needs) (λ c. search needs) (λ c. search needs) loop-again
+    returns)

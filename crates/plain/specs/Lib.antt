@@ -1,0 +1,9 @@
+pub mod Jet
+pub mod Said
+pub mod Map
+pub mod String
+pub mod Hall
+pub mod Shown
+pub mod Call
+pub mod Corresponds
+pub mod CallsAlike
