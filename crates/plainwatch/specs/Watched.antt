@@ -1,6 +1,6 @@
 -- What the program keeps from call to call, and what it may write. The calls, the feed that they hand in and their reports are the packed
--- engine's: so each write is a report that `watch` may write; that it does not matter how a feed is cut is the front door's. Assumes
--- nothing.
+-- engine's: so each write is a report that `watch` may write; that it does not matter how a feed is cut is the front door's.
+-- Assumes nothing.
 use mathlib.Core.Path.{_≡_}
 use mathlib.Core.Bool.{false, cond}
 use mathlib.Core.List.{List, []}
