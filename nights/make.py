@@ -141,6 +141,25 @@ def both_ways():
     return b"".join(feed)
 
 
+def repair(without=()):
+    """String 2, jet 10 and string 0, jet 17: their drivers stay on until repaired. The first close bit is dropped at 125; the other
+    too early at 150, in vain under a path fault at 200, and at 225. Without: cycles whose drop is left out."""
+    feed = [map_bytes(HALL)]
+    dropped = {125: {2: only(1)}, 150: {0: only(2)}, 200: {0: only(2)}, 225: {0: only(2)}}
+    for cycle in range(1, 251):
+        path = only(0) if 190 <= cycle < 210 else 0
+        closed_of_0 = only(2) if 110 <= cycle else 0
+        closed_of_2 = only(1) if 90 <= cycle < 160 or 180 <= cycle < 185 else 0
+        strings = {
+            0: (0, 0, only(17) if 35 <= cycle < 160 else 0, ALL_OPEN - closed_of_0),
+            2: (0, 0, only(10) if 20 <= cycle < 110 else 0, ALL_OPEN - closed_of_2),
+        }
+        requests = {2: (0, only(10))} if cycle == 175 else {}
+        drops = {} if cycle in without else dropped.get(cycle, {})
+        feed.append(record(cycle, path, strings, requests=requests, drops=drops))
+    return b"".join(feed)
+
+
 NIGHTS = {
     "1-stuck-jet": stuck_jet,
     "2-hand-closed-valve": hand_closed_valve,
@@ -149,6 +168,7 @@ NIGHTS = {
     "5-old-records": old_records,
     "6-below-zero": below_zero,
     "7-both-ways": both_ways,
+    "8-repair": repair,
 }
 
 

@@ -1,9 +1,10 @@
 #!/usr/bin/env python3
 """calls-nights.py > crates/calls/stdin: the nights to try of document 01 that are run and not proved, as scripts for the program `calls`,
-those of a jet named both ways (document 02, order 4) that a call alone can show, and three that hand in whole halls which no run reaches.
+those of a jet named both ways and of close bits dropped (document 02, orders 4 and 6) that a call alone can show, and three that hand in
+whole halls which no run reaches.
 
 A script is its kind (0: a start over the hall's masks, with its n; 1: the hall as it stands), a hall (420 bytes, crates/calls/src/layout.rt
-has its places), the claimed held count (2), the store (615), the number of calls (2), and for each call the piece's length (2), the
+has its places), the claimed held count (2), the store (619), the number of calls (2), and for each call the piece's length (2), the
 piece, the outbox's length (1) and its contents. Numbers have the high byte first.
 crates/calls/stdout is what the reference says to it: tests/reference, `ref_calls < crates/calls/stdin`. It is never made by `calls`."""
 import struct
@@ -12,7 +13,7 @@ import sys
 import records
 from records import ALL_OPEN, map_bytes
 
-STORE = 615
+STORE = 619
 LAST = 4294967295
 # string 0, manifold 0 = 0000000F, others zero
 MAP = map_bytes([[0x0000000F, 0, 0, 0], [0] * 4, [0] * 4, [0] * 4])
@@ -63,7 +64,7 @@ def holding(front):
     return front + b"\xEE" * (STORE - len(front))
 
 
-# a false major mark, three good minor records between 00s, 615 bytes in all
+# a false major mark, three good minor records between 00s, 619 bytes in all
 false_major = (b"\x52\x4A" + bytes(48) + minor(1) + bytes(100) + minor(2) + minor(3)).ljust(STORE, b"\0")
 
 nights = [
@@ -72,18 +73,22 @@ nights = [
     # An outbox of 33 bytes gets 5 and stays, 0 bytes used; of 34 it is written.
     script([(minor(1), 33), (minor(1), 34)]),
     # 5 gives back a state untouched that claims too much, or holds a whole record, and whose other places are not 0.
-    script([(minor(2), 33)], count=615, store=holding(minor(1))),
+    script([(minor(2), 33)], count=619, store=holding(minor(1))),
     script([(minor(2), 0), (b"", 34)], count=59, store=holding(minor(1))),
     # Empty piece, nothing held: nothing used, nothing settled; the outbox keeps its bytes.
     script([(b"", 34)]),
-    # A false major: nothing until its 615th byte, then three reports in three calls; the fourth settles nothing.
-    script([(false_major[:614], 34), (false_major[614:], 34), (b"", 34), (b"", 34), (b"", 34)]),
+    # A false major: nothing until its 619th byte, then three reports in three calls; the fourth settles nothing.
+    script([(false_major[:618], 34), (false_major[618:], 34), (b"", 34), (b"", 34), (b"", 34)]),
     # The same in one piece: the first call uses it all.
     script([(false_major, 34), (b"", 34), (b"", 34), (b"", 34)]),
-    # A state that claims 615 held bytes is read as holding none: the good record in its store is not there.
-    script([(b"", 34), (minor(1), 34)], count=615, store=holding(minor(1))),
-    # One that claims 614 holds them: the held record settles first, and none of the piece is used.
-    script([(minor(1), 34)], count=614, store=(minor(1) + b"\x52\x4A").ljust(STORE, b"\0")),
+    # A state that claims 619 held bytes is read as holding none: the good record in its store is not there.
+    script([(b"", 34), (minor(1), 34)], count=619, store=holding(minor(1))),
+    # One that claims 618 holds them: the held record settles first, and none of the piece is used.
+    script([(minor(1), 34)], count=618, store=(minor(1) + b"\x52\x4A").ljust(STORE, b"\0")),
+    # So do those that claim 615 to 618 of a major record, which the rest of it settles.
+    *(script([(records.major(25)[count:], 34)], n=24, count=count, store=records.major(25)) for count in range(615, 619)),
+    # The whole record in the store of one that claims 619 is not there, and comes again.
+    script([(records.major(25), 34)], n=24, count=619, store=records.major(25)),
     # A refused map answers 6, and the monitor goes on over the empty map: jet 0 has no pressure at 1, 2, 3, and no report says so.
     script([(minor(1, 1), 34), (minor(2, 1), 34), (minor(3, 1), 34)], masks=REFUSED),
     # An outbox longer than 34 bytes keeps those after the 34th.
@@ -111,6 +116,28 @@ nights = [
             (records.major(50, strings={0: (0, 0, 1, ALL_OPEN)}, requests={0: (2, 0)}, banks={0: (500, 400)}), 34),
         ],
         whole=hall(n=49, strings={0: string(standing(1), standing(1), on=(1, 1), recheck=1)}),
+    ),
+    # Drops take away the close bits that they name, of a manifold without jets too, and nothing else: string 0 loses one, string 1 some,
+    # string 2 none, for its path has failed, string 3 all four; the bits above the manifolds stay. A record that names a jet both ways does
+    # none of it, one with a reserved drop bit loses a byte and is not read.
+    script(
+        [
+            (records.major(25, requests={0: (1, 1)}, drops={s: 0x0F for s in range(records.STRINGS)}), 34),
+            (records.major(25, drops={0: 0x0F, 1: 0x1F}), 34),
+            (records.major(25, 0b0100, drops={0: 0b0001, 1: 0b1010, 2: 0x0F, 3: 0x0F}), 34),
+        ],
+        whole=hall(n=24, strings={s: string(close=0xABCD120F) for s in range(records.STRINGS)}),
+    ),
+    # Jet 0 is bad for the third time and jet 1 for the second, and the drop is asked for in both records: the bit comes back at once by jet
+    # 0, then by jet 1. With both good it goes, and a last drop finds nothing.
+    script(
+        [
+            (records.major(50, strings={0: (0, 0, 3, ALL_OPEN)}, drops={0: 1}), 34),
+            (records.major(75, strings={0: (0, 0, 2, ALL_OPEN)}, drops={0: 1}), 34),
+            (records.major(100, drops={0: 1}), 34),
+            (records.major(125, drops={0: 1}), 34),
+        ],
+        whole=hall(n=49, strings={0: string(standing(1), standing(1), on=(3, 1), recheck=1, close=1)}),
     ),
     # A hall handed in whose manifold 0 is remembered closed and has a saved set beyond its mask: all of it leaves the fail word, and the
     # set stays. Jets 16 and 17 are in no mask: the report does not show them, the hall does.

@@ -36,17 +36,19 @@ def minor(wire, path=0, strings={}):
     return summed(b"\x52\x4D" + common(wire, path, strings))
 
 
-def major(wire, path=0, strings={}, temps={}, requests={}, banks={}):
-    """temps: {(string, jet): (fuel, oxidizer)}, requests: {string: (inhibit, re-enable)}, banks: {module: (fuel, oxidizer)}."""
+def major(wire, path=0, strings={}, temps={}, requests={}, banks={}, drops={}):
+    """temps: {(string, jet): (fuel, oxidizer)}, requests: {string: (inhibit, re-enable)}, banks: {module: (fuel, oxidizer)}, drops:
+    {string: byte}, bit i of which asks to drop the close bit of manifold i."""
     out = b"\x52\x4A" + common(wire, path, strings)
     out += b"".join(struct.pack(">HH", *temps.get((s, j), WARM)) for s in range(STRINGS) for j in range(JETS))
     out += b"".join(struct.pack(">II", *requests.get(s, NO_REQUESTS)) for s in range(STRINGS))
+    out += bytes(drops.get(s, 0) for s in range(STRINGS))
     out += b"".join(struct.pack(">HH", *banks.get(m, HALF_FULL)) for m in range(MODULES))
     return summed(out)
 
 
-def record(cycle, path=0, strings={}, temps={}, requests={}, banks={}):
+def record(cycle, path=0, strings={}, temps={}, requests={}, banks={}, drops={}):
     """Of the right kind for its cycle: a minor record carries no more than path and strings."""
     if cycle % MAJOR_EVERY:
         return minor(cycle, path, strings)
-    return major(cycle, path, strings, temps, requests, banks)
+    return major(cycle, path, strings, temps, requests, banks, drops)

@@ -2,7 +2,7 @@
 """writes-requests.py > crates/writes/stdin: requests to the writer of records, for the program `writes`.
 
 A request is its kind (0: a minor record, 1: a major), the outbox's length (2, at most 1,024), the byte that fills the outbox beforehand
-(1), and the record's values in its order, without mark and sum (55 or 611). Numbers have the high byte first. The answers are 0 written,
+(1), and the record's values in its order, without mark and sum (55 or 615). Numbers have the high byte first. The answers are 0 written,
 1 a reserved bit, 2 a quantity above 1,000, 3 an outbox too short.
 crates/writes/stdout is what the reference says to it: tests/reference, `ref_writes < crates/writes/stdin`. It is never made by `writes`."""
 import struct
@@ -11,7 +11,7 @@ import sys
 import records
 from records import ALL_OPEN, JETS, MODULES, STRINGS
 
-MINOR, MAJOR = 59, 615
+MINOR, MAJOR = 59, 619
 LONGEST = 1024
 FULL = (1000, 1000)
 
@@ -46,6 +46,7 @@ own_major = records.major(
     {(s, j): (0x4000 + 256 * s + j, 0x8000 + 256 * s + j) for s in range(STRINGS) for j in range(JETS)},
     {s: numbered(s + 8, 2) for s in range(STRINGS)},
     {m: (900 + m, 800 + m) for m in range(MODULES)},
+    {s: 0b1001 + s for s in range(STRINGS)},
 )
 # the bytes come to more than 65,535
 heavy = records.major(
@@ -55,6 +56,7 @@ heavy = records.major(
     {(s, j): (0xFFFF, 0xFFFF) for s in range(STRINGS) for j in range(JETS)},
     {s: (0xFFFFFFFF, 0xFFFFFFFF) for s in range(STRINGS)},
     {m: FULL for m in range(MODULES)},
+    {s: 0x0F for s in range(STRINGS)},
 )
 # a valve byte with bit 7, a quantity of 1,001
 both_wrong = records.major(25, strings=valves(3, 0x8F), banks={2: (500, 1001)})
@@ -82,6 +84,14 @@ requests = [
     request(records.minor(1, strings=valves(0, 0x1F))),
     request(records.minor(1, strings=valves(3, 0x80))),
     request(records.major(25, strings=valves(1, 0x2F)), LONGEST),
+    # A reserved drop bit: each of the four in some string, and with drops that may be asked for.
+    request(records.major(25, drops={0: 0x10})),
+    request(records.major(25, drops={1: 0x20}), LONGEST),
+    request(records.major(25, drops={2: 0x40})),
+    request(records.major(25, drops={3: 0x80})),
+    request(records.major(25, drops={0: 0x0F, 3: 0xFF})),
+    # Drops are written: of each string alone, whether a manifold is to be closed or not.
+    *(request(records.major(25, drops={s: 1 << s})) for s in range(STRINGS)),
     # A quantity above 1,000: the first fuel, the last oxidizer, all bits.
     request(large(0, 1001, 1000), LONGEST),
     request(large(2, 1000, 1001), LONGEST),
@@ -91,6 +101,7 @@ requests = [
     request(both_wrong),
     request(both_wrong, 100),
     request(records.major(25, 0x40), MAJOR - 1),
+    request(records.major(25, banks={0: (1001, 500)}, drops={2: 0x1F}), MAJOR - 1),
     request(large(2, 500, 1001), MAJOR - 1),
     # What a monitor may refuse is written: kinds that do not fit the cycle, jets named both ways, cold injectors, closed valves.
     request(records.minor(25, strings=valves(2, 0))),

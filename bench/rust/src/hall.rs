@@ -76,7 +76,7 @@ impl Hall {
             Ok(next) => next,
             Err(answer) => return answer,
         };
-        // Requests are rare.
+        // Requests are rare, drops among them.
         let asking = major.filter(|record| record[REQUESTS..QUANTITIES] != [0; QUANTITIES - REQUESTS]);
         if asking.is_some_and(|record| self.named_both_ways(record)) {
             return BOTH_WAYS;
@@ -271,6 +271,7 @@ impl JetString {
         self.inhibit = (self.inhibit | inhibit) & !reenable;
         self.reenable = (self.reenable | reenable) & !inhibit;
         self.standing.fail = (self.standing.fail | inhibit) & !reenable;
+        self.close &= !record[DROPS + s];
     }
 
     /// Steps 6 to 8.

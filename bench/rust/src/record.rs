@@ -4,7 +4,7 @@ const MARK: u8 = 0x52;
 const MINOR_MARK: u8 = 0x4D;
 const MAJOR_MARK: u8 = 0x4A;
 pub const MINOR_LENGTH: usize = 59;
-pub const MAJOR_LENGTH: usize = 615;
+pub const MAJOR_LENGTH: usize = 619;
 const PATH: usize = 4;
 pub const SAMPLES: usize = 5;
 pub const SAMPLE_LENGTH: usize = 13;
@@ -12,7 +12,9 @@ pub const TEMPERATURES: usize = 57;
 pub const TEMPERATURES_LENGTH: usize = 128;
 pub const REQUESTS: usize = 569;
 pub const REQUESTS_LENGTH: usize = 8;
-pub const QUANTITIES: usize = 601;
+/// A byte for each string, behind the inhibit and re-enable words of all.
+pub const DROPS: usize = 601;
+pub const QUANTITIES: usize = 605;
 const MOST_QUANTITY: u16 = 1_000;
 
 pub type MinorRecord = [u8; MINOR_LENGTH];
@@ -37,7 +39,9 @@ pub fn look(feed: &[u8]) -> Look<'_> {
         },
         [MARK, MAJOR_MARK, ..] => match feed.first_chunk() {
             None => Look::Waits,
-            Some(record) if good(record) && quantities_right(record) => Look::Major(record),
+            Some(record) if drops_right(record) && good(record) && quantities_right(record) => {
+                Look::Major(record)
+            }
             Some(_) => Look::Drops(1),
         },
         [_, ref later @ ..] => {
@@ -58,6 +62,11 @@ fn good<const LENGTH: usize>(record: &[u8; LENGTH]) -> bool {
 
 fn sum(bytes: &[u8]) -> u16 {
     bytes.iter().fold(0, |sum, &byte| sum.wrapping_add(byte.into()))
+}
+
+/// Are the reserved bits of the four drop bytes clear?
+fn drops_right(record: &MajorRecord) -> bool {
+    word(record, DROPS) & 0xF0F0_F0F0 == 0
 }
 
 fn quantities_right(record: &MajorRecord) -> bool {

@@ -143,3 +143,8 @@ any-or n f g =
     (λ (a : any n f ≡ true). let x = any-found n f a in any-at n (λ j. f j || g j) (x .0) (x .1) (or-left (f (x .0)) (g (x .0)) (x .2)))
     (λ (b : any n g ≡ true). let x = any-found n g b in any-at n (λ j. f j || g j) (x .0) (x .1) (or-right (f (x .0)) (g (x .0)) (x .2)))
     (or-cases (any n f) (any n g) p))
+
+-- and of one test in every place
+pub any-and : (n : ℕ) (f : ℕ → Bool) (b : Bool) → any n (λ j. f j && b) ≡ (any n f && b)
+any-and n f true = any-same n (λ j. f j && true) f (λ j l. and-true (f j)) ∙ sym (and-true (any n f))
+any-and n f false = any-none n (λ j. f j && false) (λ j l. and-false (f j)) ∙ sym (and-false (any n f))

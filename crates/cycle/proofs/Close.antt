@@ -1,15 +1,17 @@
--- Demand 3's close rule for one jet: it asks for the close bit exactly at a third bad major cycle. Assumes nothing.
+-- Demand 3's close rule for one jet: it asks for the close bit exactly at a third bad major cycle, and has asked since the last drop
+-- exactly if there was one since. Assumes nothing.
 use mathlib.Core.Path.{_≡_, refl}
-use mathlib.Core.Bool.{Bool, true, false, _||_}
+use mathlib.Core.Bool.{Bool, true, false, not, _&&_, _||_}
 use mathlib.Core.List.{List, [], _∷_}
 use mathlib.Core.Logic.{_⊎_, inl, inr, ⊎-elim, _↔_}
 use Prim.Native.Nat.{_%_, _<_}
 use native.Mathlib.Omega.{arith}
-use Rattle.bits.proofs.Yes.{not-both, or-cases, or-left, or-right}
+use Rattle.bits.proofs.Yes.{not-both, not-true, not-false, and-left, and-right, and-both, or-cases, or-left, or-right}
 use Rattle.cycle.specs.Size.{majorEvery}
 use Rattle.cycle.specs.Numbers.{isMajor}
-use Rattle.cycle.specs.Jets.{JetRecord, isBad, minorSteps, asksAt, reached, run, hasAsked}
-use Rattle.cycle.specs.Close.{Rising, reenableInForce, Third, EverThird}
+use Rattle.cycle.specs.Jets.{JetRecord, isBad, minorSteps, dropsAt, asksAt, reached, run, askedSinceDrop}
+use Rattle.cycle.specs.Close.{Rising, reenableInForce, Third}
+use Rattle.cycle.specs.Inside.Drops.{ThirdSinceDrop}
 use Rattle.cycle.proofs.CloseSteps.{path-quiet, minor-quiet, major-asks}
 use Rattle.cycle.proofs.CloseSpans.{some-map, every-map, majorBelow, BadTwice}
 use Rattle.cycle.proofs.CloseSlots.{major-is, minor-is, both-and-not, told-before, in-force, invariant}
@@ -62,18 +64,27 @@ asks-third h r t = go (r .path) refl (isMajor (r .n)) refl
           (λ w. a .1 (b .twice .1 (twice-of-third h r z w), w .badNow, w .freeNow)),
         )
 
--- it has asked exactly if the newest or an earlier record is such a third
-pub asked-third : (h : List JetRecord) → Rising h → (hasAsked h ≡ true) ↔ EverThird h
-unfolding hasAsked
+-- it has asked since the last drop exactly if some record since then is such a third
+pub asked-third : (h : List JetRecord) → Rising h → (askedSinceDrop h ≡ true) ↔ ThirdSinceDrop h
+unfolding askedSinceDrop
 asked-third [] t = ((λ e. not-both false e refl), (λ x. absurd x))
 asked-third (r ∷ h) t = (to (asked-third h (t .1)), back (asked-third h (t .1)))
   where
     now : Bool
     now = asksAt (reached h) r (run h)
 
-    to : (hasAsked h ≡ true) ↔ EverThird h → (hasAsked h || now) ≡ true → Third r h ⊎ EverThird h
-    to i e = ⊎-elim (λ x. inr (i .0 x)) (λ x. inl (asks-third h r t .0 x)) (or-cases (hasAsked h) now e)
+    still : Bool
+    still = askedSinceDrop h && not (dropsAt r)
 
-    back : (hasAsked h ≡ true) ↔ EverThird h → Third r h ⊎ EverThird h → (hasAsked h || now) ≡ true
-    back i (inl w) = or-right (hasAsked h) now (asks-third h r t .1 w)
-    back i (inr x) = or-left (hasAsked h) now (i .1 x)
+    to : (askedSinceDrop h ≡ true) ↔ ThirdSinceDrop h → (still || now) ≡ true → ThirdSinceDrop (r ∷ h)
+    to i e =
+        ⊎-elim
+        (λ x. inr (
+          not-true (dropsAt r) (and-right (askedSinceDrop h) (not (dropsAt r)) x),
+          i .0 (and-left (askedSinceDrop h) (not (dropsAt r)) x),
+        ))
+        (λ x. inl (asks-third h r t .0 x)) (or-cases still now e)
+
+    back : (askedSinceDrop h ≡ true) ↔ ThirdSinceDrop h → ThirdSinceDrop (r ∷ h) → (still || now) ≡ true
+    back i (inl w) = or-right still now (asks-third h r t .1 w)
+    back i (inr x) = or-left still now (and-both (askedSinceDrop h) (not (dropsAt r)) (i .1 (x .1)) (not-false (dropsAt r) (x .0)))

@@ -1,14 +1,14 @@
--- The packed steps 1 to 4 and 5 to 8 do to jet j on manifold i what the jet's rules say; manifold i's close bit is set by steps 5 to 8
--- exactly where one of its jets asks for it, and never cleared. Assumes nothing.
+-- The packed steps 1 to 4 and 5 to 8 do to jet j on manifold i what the jet's rules say; manifold i's close bit is cleared by steps 5 to 8
+-- exactly where its drop bit is set, and then set exactly where one of its jets asks for it. Assumes nothing.
 use mathlib.Core.Path.{_≡_, refl, ap, ap₂, _∙_}
-use mathlib.Core.Bool.{Bool, true, false, cond, _&&_, _||_}
+use mathlib.Core.Bool.{Bool, true, false, not, cond, _&&_, _||_}
 use mathlib.Core.List.{List}
 use Prim.Native.Nat.{ℕ, _^_, _<_}
 use native.Mathlib.Nat.{lt-of-le-of-lt}
-use lib.Bits.{bitAnd, and-le-l, or-lt}
+use lib.Bits.{bitAnd, and-le-l, or-lt, xor-lt}
 use lib.ListN.{getD}
 use Rattle.bits.specs.Bit.{wordBits, bit, without, any}
-use Rattle.bits.proofs.Bits.{bit-and, bit-or}
+use Rattle.bits.proofs.Bits.{bit-and, bit-or, bit-without}
 use Rattle.bits.proofs.Words.{pack-lt, pack-at, meets-is, any-same}
 use Rattle.cycle.specs.Size.{jetCount}
 use Rattle.cycle.specs.Map.{inMask, mapped}
@@ -94,6 +94,10 @@ pub minor-steps-close : (m : ℕ) (masks : List ℕ) (x : Sample) (gap missed : 
 unfolding words.minorSteps words.manifolds words.offFailure
 minor-steps-close m masks x gap missed s = gapped-close gap missed (words.recovered s) ∙ recovered-close s
 
+without-lt : (m a b : ℕ) → a < 2 ^ m → without a b < 2 ^ m
+unfolding without
+without-lt m a b l = xor-lt m a (bitAnd a b) l (lt-of-le-of-lt (and-le-l a b) l)
+
 -- a close bit is a manifold's
 pub major-steps-fit : (m : ℕ) (masks : List ℕ) (x : Sample) (q : Requests) (t : Temperatures) (s : StringState) → s .close < 2 ^ m
     → (words.majorSteps m masks x (words.leakWord t) q s) .close < 2 ^ m
@@ -101,20 +105,22 @@ unfolding words.majorSteps words.kept words.onFailure words.rechecked words.requ
 major-steps-fit m masks x q t s l =
     let after : StringState = words.afterRequests m masks q s in
     let again : ℕ = without (words.badOf m masks x (words.leakWord t)) (after .over .reenable) in
-    or-lt m (s .close) (words.closeBits m masks (after .on .recheck) again) l
+    or-lt m (without (s .close) (q .drop)) (words.closeBits m masks (after .on .recheck) again) (without-lt m (s .close) (q .drop) l)
     (pack-lt m (λ i. words.asksClose (getD masks i 0) (after .on .recheck) again))
 
 pub major-steps-close : (m i : ℕ) (masks : List ℕ) (x : Sample) (q : Requests) (t : Temperatures) (old n : ℕ) (path : Bool)
     (s : StringState) → Disjoint m masks → i < m → ProperString m masks s
     → bit i ((words.majorSteps m masks x (words.leakWord t) q (afterMinor m masks x old n s)) .close)
-    ≡ (bit i (s .close)
+    ≡ ((bit i (s .close) && not (bit i (q .drop)))
     || any jetCount
     (λ j. bit j (getD masks i 0)
     && jets.asks (jets.isBad (jetSays n path i j x q t)) (jets.afterRequests old (jetSays n path i j x q t) (jetOf i j s))))
 unfolding words.majorSteps words.kept words.onFailure words.rechecked words.requested words.closeBits
 major-steps-close m i masks x q t old n path s d below p =
-    bit-or i (a .close) (words.closeBits m masks recheck again)
-    ∙ ap₂ (λ (b c : Bool). b || c) (ap (bit i) (minor-steps-close m masks x (missedCycle old n) (missedMajor old n) s))
+    bit-or i (without (a .close) (q .drop)) (words.closeBits m masks recheck again)
+    ∙ ap₂ (λ (b c : Bool). b || c)
+    (bit-without i (a .close) (q .drop)
+    ∙ ap (λ (w : ℕ). bit i w && not (bit i (q .drop))) (minor-steps-close m masks x (missedCycle old n) (missedMajor old n) s))
     (pack-at m (λ k. words.asksClose (getD masks k 0) recheck again) i below
     ∙ meets-is wordBits (bitAnd mask recheck) again (lt-of-le-of-lt (and-le-l mask recheck) (d .fits i below))
     ∙ any-same jetCount (λ j. bit j (bitAnd mask recheck) && bit j again) (λ j. bit j mask && asks j)

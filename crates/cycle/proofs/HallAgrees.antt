@@ -17,6 +17,7 @@ use Rattle.cycle.specs.Hall.{sampleOf, noTemperatures, noRequests, minor
 use Rattle.cycle.specs.Hall.{stringOf}
 use Rattle.cycle.specs.Views.{jetOf, jetRecord}
 use Rattle.cycle.specs.Proper.{ProperHall}
+use Rattle.cycle.specs.Inside.Drops.{dropsClose}
 use Rattle.cycle.specs.Inside.Runs.{bankBy}
 use Rattle.cycle.specs.declared.number.Next.{Next}
 use Rattle.cycle.specs.declared.string.StringState.{StringState}
@@ -72,10 +73,10 @@ module _ (h : Hall) (p : ProperHall h) (wire : ℕ) (next : Next) (s : ℕ) (l :
       (getD (r .temperatures) s noTemperatures) (h .n) (next .n) (stringOf h s) (p .proper s l) i j below stands
       (bit s (r .minor .path)) (in-word manifoldCount masks (p .disjoint s l .fits) i j below stands) (f .kind)
 
-  -- a manifold's close bit is set exactly if it was or one of its jets asks
+  -- a manifold's close bit is set exactly if it was and is not dropped, or one of its jets asks
   pub close-after : (r : Record) → Follows (h .n) wire (majorKind r) next → (i : ℕ) → i < manifoldCount
       → bit i ((stringOf (taken r next h) s) .close)
-      ≡ (bit i ((stringOf h s) .close)
+      ≡ ((bit i ((stringOf h s) .close) && not (dropsClose (next .n) s i r))
       || any jetCount
       (λ j. bit j (getD masks i 0) && jets.asksAt (h .n) (jetRecord (next .n) s i j r) (jetOf i j (stringOf h s))))
   close-after (minor r) f i below =

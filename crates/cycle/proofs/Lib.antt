@@ -26,6 +26,7 @@ pub mod CloseSlots
 pub mod Close
 pub mod Runs
 pub mod RunClose
+pub mod Drops
 pub mod Overrides
 pub mod Turns
 pub mod UnmappedSteps

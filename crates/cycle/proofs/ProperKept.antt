@@ -69,10 +69,10 @@ module _ (m : ℕ) (masks : List ℕ) where
       let r = passed-proper m masks m (s .standing .valves) now start (le-refl m) sets in
       record { standing = record { long = r .long; within = r .within }; good = p .good }
 
-  pub requested-proper : (inhibit reenable : ℕ) (s : StringState) → ProperString m masks s
-      → ProperString m masks (requested inhibit reenable s)
+  pub requested-proper : (inhibit reenable drop : ℕ) (s : StringState) → ProperString m masks s
+      → ProperString m masks (requested inhibit reenable drop s)
   unfolding requested
-  requested-proper inhibit reenable s = same-sets s (requested inhibit reenable s) refl refl
+  requested-proper inhibit reenable drop s = same-sets s (requested inhibit reenable drop s) refl refl
 
   pub rechecked-proper : (bad : ℕ) (s : StringState) → ProperString m masks s → ProperString m masks (rechecked m masks bad s)
   unfolding rechecked
@@ -99,7 +99,7 @@ module _ (m : ℕ) (masks : List ℕ) where
       → ProperString m masks (majorSteps m masks x leaking q s)
   unfolding majorSteps
   major-steps-proper x leaking q s p =
-      kept-proper _ (on-failure-proper _ _ (rechecked-proper _ _ (requested-proper _ _ s p)))
+      kept-proper _ (on-failure-proper _ _ (rechecked-proper _ _ (requested-proper _ _ _ s p)))
 
 pub minor-cycle-proper : (m : ℕ) (masks : List ℕ) (path : Bool) (x : Sample) (gap missed : Bool) (s : StringState)
     → ProperString m masks s → ProperString m masks (minorCycle m masks path x gap missed s)

@@ -1,6 +1,6 @@
 -- Every proper hall, whether a run reaches it or not, is stepped jet by jet as the rules say. Assumes nothing.
 use mathlib.Core.Path.{_≡_, refl, sym, ap, _∙_}
-use mathlib.Core.Bool.{true, _&&_, _||_}
+use mathlib.Core.Bool.{true, not, _&&_, _||_}
 use Prim.Native.Nat.{ℕ, _<_}
 use lib.ListN.{getD}
 use Rattle.bits.specs.Bit.{bit, any}
@@ -13,6 +13,7 @@ use Rattle.cycle.specs.Map.{masksOf, inMask}
 use Rattle.cycle.specs.Hall.{stringOf, verdictOn, steppedBy, stepped}
 use Rattle.cycle.specs.Views.{jetOf, jetRecord}
 use Rattle.cycle.specs.Proper.{ProperHall}
+use Rattle.cycle.specs.Inside.Drops.{dropsClose}
 use Rattle.cycle.specs.declared.hall.Hall.{Hall}
 use Rattle.cycle.specs.declared.hall.Stepped.{Stepped}
 use Rattle.cycle.specs.declared.number.Verdict.{Verdict}
@@ -31,7 +32,7 @@ module _ (r : Record) (h : Hall) (p : ProperHall h) (s i : ℕ) (l : s < stringC
   abbrev CloseSteps : Stepped → Type 0
   CloseSteps x =
       bit i ((stringOf (x .hall) s) .close)
-      ≡ (bit i ((stringOf h s) .close)
+      ≡ ((bit i ((stringOf h s) .close) && not (dropsClose (x .hall .n) s i r))
       || any jetCount
       (λ j. bit j (getD (masksOf (h .masks) s) i 0) && jets.asksAt (h .n) (says (x .hall .n) j) (jetOf i j (stringOf h s))))
 
@@ -56,7 +57,7 @@ module _ (r : Record) (h : Hall) (p : ProperHall h) (s i : ℕ) (l : s < stringC
           close-after h p ((common r) .wire) next s l r (verdict-follows (h .n) (h .masks) r next e) i below
           ∙ ap
           (λ (n : ℕ).
-          bit i ((stringOf h s) .close)
+          (bit i ((stringOf h s) .close) && not (dropsClose n s i r))
           || any jetCount
           (λ j. bit j (getD (masksOf (h .masks) s) i 0) && jets.asksAt (h .n) (says n j) (jetOf i j (stringOf h s))))
           (sym (number-after r next h))

@@ -30,7 +30,7 @@ module _ (m i j : ℕ) (masks : List ℕ) (below : i < m) (stands : inMask masks
       → jetOf i j (words.afterRequests m masks q s)
       ≡ jets.requested (bit j (q .inhibit)) (bit j (q .reenable)) (jetOf i j s)
   requests-heard q s =
-      requested-agrees i j (bitAnd (mapped m masks) (q .inhibit)) (bitAnd (mapped m masks) (q .reenable)) s
+      requested-agrees i j (bitAnd (mapped m masks) (q .inhibit)) (bitAnd (mapped m masks) (q .reenable)) (q .drop) s
       ∙ ap₂ (λ (a e : Bool). jets.requested a e (jetOf i j s)) (heard (q .inhibit)) (heard (q .reenable))
 
   module _ (x : Sample) (q : Requests) (t : Temperatures) (n : ℕ) (path : Bool) (inWord : j < jetCount) where

@@ -14,7 +14,7 @@ use Rattle.cycle.specs.Jets as jets
 use Rattle.cycle.specs.Map.{masksOf}
 use Rattle.cycle.specs.Hall.{stringOf}
 use Rattle.cycle.specs.Inside.Runs.{TakenRecord, jetHistory}
-use Rattle.cycle.specs.Close.{JetThird}
+use Rattle.cycle.specs.Inside.Drops.{JetThird}
 use Rattle.cycle.specs.declared.map.Masks.{Masks}
 use Rattle.cycle.specs.declared.hall.Hall.{Hall}
 use Rattle.cycle.proofs.Runs.{Run}
@@ -26,7 +26,7 @@ pub close-exactly : (masks : List Masks) (h : Hall) (ts : List TakenRecord) → 
 close-exactly masks h ts run s i l below = (to, back)
   where
     test : ℕ → Bool
-    test j = bit j (getD (masksOf masks s) i 0) && jets.hasAsked (jetHistory s i j ts)
+    test j = bit j (getD (masksOf masks s) i 0) && jets.askedSinceDrop (jetHistory s i j ts)
 
     to : bit i ((stringOf h s) .close) ≡ true → JetThird (getD (masksOf masks s) i 0) (λ j. jetHistory s i j ts)
     to e =
@@ -34,15 +34,15 @@ close-exactly masks h ts run s i l below = (to, back)
         record {
           jet = x .0;
           inWord = x .1;
-          inMask = and-left (bit (x .0) (getD (masksOf masks s) i 0)) (jets.hasAsked (jetHistory s i (x .0) ts)) (x .2);
+          inMask = and-left (bit (x .0) (getD (masksOf masks s) i 0)) (jets.askedSinceDrop (jetHistory s i (x .0) ts)) (x .2);
           third =
               asked-third (jetHistory s i (x .0) ts) (run .rising s i (x .0)) .0
-              (and-right (bit (x .0) (getD (masksOf masks s) i 0)) (jets.hasAsked (jetHistory s i (x .0) ts)) (x .2));
+              (and-right (bit (x .0) (getD (masksOf masks s) i 0)) (jets.askedSinceDrop (jetHistory s i (x .0) ts)) (x .2));
         }
 
     back : JetThird (getD (masksOf masks s) i 0) (λ j. jetHistory s i j ts) → bit i ((stringOf h s) .close) ≡ true
     back w =
         run .told .closes s i l below
         ∙ any-at jetCount test (w .jet) (w .inWord)
-        (and-both (bit (w .jet) (getD (masksOf masks s) i 0)) (jets.hasAsked (jetHistory s i (w .jet) ts)) (w .inMask)
+        (and-both (bit (w .jet) (getD (masksOf masks s) i 0)) (jets.askedSinceDrop (jetHistory s i (w .jet) ts)) (w .inMask)
         (asked-third (jetHistory s i (w .jet) ts) (run .rising s i (w .jet)) .1 (w .third)))

@@ -1,7 +1,7 @@
 -- The run law: from fresh over an accepted map, after any list of records, everything that a report shows of the hall is what the rules say
 -- jet by jet over the records answered 0. Assumes nothing.
 use mathlib.Core.Path.{_≡_, refl, sym, ap, ap₂, subst, _∙_}
-use mathlib.Core.Bool.{Bool, true, false, cond, _&&_, _||_}
+use mathlib.Core.Bool.{Bool, true, false, not, cond, and-assoc, _&&_, _||_}
 use mathlib.Core.List.{List, [], _∷_}
 use Prim.Native.Nat.{ℕ, _^_, _<_}
 use native.Mathlib.Omega.{arith}
@@ -9,7 +9,7 @@ use lib.ListN.{getD, getD-replicate}
 use Rattle.bits.specs.Bit.{bit, any}
 use Rattle.bits.proofs.Yes.{and-false}
 use Rattle.bits.proofs.Bits.{bit-none, bit-ones}
-use Rattle.bits.proofs.Words.{any-none, any-same, any-or}
+use Rattle.bits.proofs.Words.{any-none, any-same, any-or, any-and}
 use Rattle.cycle.specs.Size.{stringCount, jetCount, manifoldCount, moduleCount}
 use Rattle.cycle.specs.Answers.{isTaken}
 use Rattle.cycle.specs.Map.{masksOf, FitMap, refused}
@@ -20,6 +20,7 @@ use Rattle.cycle.specs.Hall.{freshHall, taken, verdictOn, steppedBy, ste
 use Rattle.cycle.specs.Hall.{stringOf}
 use Rattle.cycle.specs.Views.{jetOf, jetRecord}
 use Rattle.cycle.specs.Proper.{ProperHall}
+use Rattle.cycle.specs.Inside.Drops.{dropsClose}
 use Rattle.cycle.specs.Close.{Rising}
 use Rattle.cycle.specs.Inside.Runs.{hallAfter, takes, TakenRecord, takenOf, jetHistory, bankBy, reachedBy, Told}
 use Rattle.cycle.specs.declared.jet.JetState.{JetState}
@@ -43,6 +44,11 @@ reached-same : (s i j : ℕ) (ts : List TakenRecord) → jets.reached (jetHistor
 reached-same s i j [] = refl
 reached-same s i j (t ∷ ts) = record-number (t .n) s i j (t .values)
 
+-- a drop is its manifold's, whichever jet hears it
+pub drop-same : (n s i j : ℕ) (r : Record) → jets.dropsAt (jetRecord n s i j r) ≡ dropsClose n s i r
+drop-same n s i j (minor r) = refl
+drop-same n s i j (major r) = refl
+
 both-ways : (m a b : Bool) → ((m && a) || (m && b)) ≡ (m && (a || b))
 both-ways true a b = refl
 both-ways false a b = refl
@@ -57,7 +63,7 @@ pub record Run (masks : List Masks) (h : Hall) (ts : List TakenRecord) : Type 0 
 -- ---- fresh
 
 pub run-fresh : (masks : List Masks) → FitMap masks → refused stringCount masks ≡ false → Run masks (freshHall masks) []
-unfolding freshHall jets.run jets.hasAsked
+unfolding freshHall jets.run jets.askedSinceDrop
 run-fresh masks fit accepted = record {
   proper = fresh-proper masks fit accepted;
   rising = λ s i j. tt;
@@ -86,7 +92,7 @@ grown b x r ts = cond b (record { n = x .hall .n; values = r } ∷ ts) ts
 module _ (masks : List Masks) (h : Hall) (ts : List TakenRecord) (run : Run masks h ts) (r : Record) where
   run-taken : (next : Next) → Follows (h .n) ((common r) .wire) (majorKind r) next → ProperHall (taken r next h)
       → Run masks (taken r next h) (record { n = next .n; values = r } ∷ ts)
-  unfolding jets.run jets.hasAsked
+  unfolding jets.run jets.askedSinceDrop
   run-taken next f proper = record {
     proper = proper;
     rising = λ s i j.
@@ -109,19 +115,35 @@ module _ (masks : List Masks) (h : Hall) (ts : List TakenRecord) (run : Run mask
           ≡ any jetCount
           (λ j.
           bit j (getD (masksOf masks s) i 0)
-          && (jets.hasAsked (jetHistory s i j ts)
+          && ((jets.askedSinceDrop (jetHistory s i j ts) && not (jets.dropsAt (jetRecord (next .n) s i j r)))
           || jets.asksAt (jets.reached (jetHistory s i j ts)) (jetRecord (next .n) s i j r) (jets.run (jetHistory s i j ts))))
       closes s i l below =
           close-after h (run .proper) ((common r) .wire) next s l r f i below
-          ∙ ap₂ (λ (a b : Bool). a || b) (run .told .closes s i l below)
+          ∙ ap₂ (λ (a b : Bool). a || b)
+          (ap (λ (b : Bool). b && not dropped) (run .told .closes s i l below)
+          ∙ sym (any-and jetCount (λ j. mask j && asked j) (not dropped))
+          ∙ any-same jetCount (λ j. (mask j && asked j) && not dropped) (λ j. mask j && still j) (λ j k. undropped j))
           (any-same jetCount now-asks (λ j. mask j && later j) (λ j k. by j (mask j) refl))
-          ∙ sym (any-or jetCount (λ j. mask j && jets.hasAsked (jetHistory s i j ts)) (λ j. mask j && later j))
-          ∙ any-same jetCount (λ j. (mask j && jets.hasAsked (jetHistory s i j ts)) || (mask j && later j))
-          (λ j. mask j && (jets.hasAsked (jetHistory s i j ts) || later j))
-          (λ j k. both-ways (mask j) (jets.hasAsked (jetHistory s i j ts)) (later j))
+          ∙ sym (any-or jetCount (λ j. mask j && still j) (λ j. mask j && later j))
+          ∙ any-same jetCount (λ j. (mask j && still j) || (mask j && later j)) (λ j. mask j && (still j || later j))
+          (λ j k. both-ways (mask j) (still j) (later j))
         where
           mask : ℕ → Bool
           mask j = bit j (getD (masksOf masks s) i 0)
+
+          dropped : Bool
+          dropped = dropsClose (next .n) s i r
+
+          asked : ℕ → Bool
+          asked j = jets.askedSinceDrop (jetHistory s i j ts)
+
+          still : ℕ → Bool
+          still j = asked j && not (jets.dropsAt (jetRecord (next .n) s i j r))
+
+          undropped : (j : ℕ) → ((mask j && asked j) && not dropped) ≡ (mask j && still j)
+          undropped j =
+              and-assoc (mask j) (asked j) (not dropped)
+              ∙ ap (λ (b : Bool). mask j && (asked j && not b)) (sym (drop-same (next .n) s i j r))
 
           later : ℕ → Bool
           later j = jets.asksAt (jets.reached (jetHistory s i j ts)) (jetRecord (next .n) s i j r) (jets.run (jetHistory s i j ts))

@@ -62,11 +62,11 @@ module _ (i j : ℕ) where
   off-failure-agrees commanded pressure s = simp (bit-and, bit-or, bit-without)
 
   -- 5
-  pub requested-agrees : (inhibit reenable : ℕ) (s : StringState)
-      → jetOf i j (words.requested inhibit reenable s) ≡ jets.requested (bit j inhibit) (bit j reenable) (jetOf i j s)
+  pub requested-agrees : (inhibit reenable drop : ℕ) (s : StringState)
+      → jetOf i j (words.requested inhibit reenable drop s) ≡ jets.requested (bit j inhibit) (bit j reenable) (jetOf i j s)
   unfolding words.requested
-  requested-agrees inhibit reenable s =
-      let e : jetOf i j (words.requested inhibit reenable s) ≡ carriedOut (bit j inhibit) (bit j reenable) (jetOf i j s) =
+  requested-agrees inhibit reenable drop s =
+      let e : jetOf i j (words.requested inhibit reenable drop s) ≡ carriedOut (bit j inhibit) (bit j reenable) (jetOf i j s) =
       simp (bit-or, bit-without) in
       e ∙ carried-out (bit j inhibit) (bit j reenable) (jetOf i j s)
 

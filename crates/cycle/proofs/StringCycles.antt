@@ -1,12 +1,12 @@
--- A taken record's whole cycle of a string: each mapped jet does what Jets says of the cycle, and a manifold gets its close bit exactly
--- where one of its jets asks for it. Assumes nothing.
-use mathlib.Core.Path.{_≡_, refl, sym, ap, _∙_}
+-- A taken record's whole cycle of a string: each mapped jet does what Jets says of the cycle, and a manifold's close bit goes exactly where
+-- a drop is carried out, and comes exactly where one of its jets asks for it. Assumes nothing.
+use mathlib.Core.Path.{_≡_, refl, sym, ap, ap₂, _∙_}
 use mathlib.Core.Bool.{Bool, true, false, not, _&&_, _||_}
 use mathlib.Core.List.{List}
 use Prim.Native.Nat.{ℕ, _^_, _<_}
 use lib.ListN.{getD}
 use Rattle.bits.specs.Bit.{bit, any}
-use Rattle.bits.proofs.Yes.{and-false, or-false}
+use Rattle.bits.proofs.Yes.{and-true, and-false, or-false}
 use Rattle.bits.proofs.Words.{any-none}
 use Rattle.cycle.specs.Size.{jetCount}
 use Rattle.cycle.specs.Numbers.{isMajor, missedCycle, missedMajor}
@@ -71,18 +71,23 @@ module _ (m : ℕ) (masks : List ℕ) (d : Disjoint m masks) (x : Sample) (q : R
       r : jets.JetRecord
       r = jetSays n path i j x q t
 
+  -- manifold i's close bit, as it was or dropped
+  abbrev still : Bool → ℕ → Bool
+  still path i = bit i (s .close) && not (jets.dropDone path n (bit i (q .drop)))
+
   pub quiet-close : (path : Bool) (i : ℕ) → (not path && isMajor n) ≡ false
-      → (bit i (s .close) || any jetCount (λ j. bit j (getD masks i 0) && jets.asksAt old (jetSays n path i j x q t) (jetOf i j s)))
+      → (still path i || any jetCount (λ j. bit j (getD masks i 0) && jets.asksAt old (jetSays n path i j x q t) (jetOf i j s)))
       ≡ bit i (s .close)
   quiet-close path i e =
-      ap (λ (b : Bool). bit i (s .close) || b)
+      ap₂ (λ (a b : Bool). (bit i (s .close) && not (a && bit i (q .drop))) || b) e
       (any-none jetCount (λ j. bit j (getD masks i 0) && jets.asksAt old (jetSays n path i j x q t) (jetOf i j s))
       (λ j l. ap (λ (b : Bool). bit j (getD masks i 0) && b) (asks-none path i j e) ∙ and-false (bit j (getD masks i 0))))
-      ∙ or-false (bit i (s .close))
+      ∙ or-false (bit i (s .close) && true)
+      ∙ and-true (bit i (s .close))
 
   pub major-cycle-close : (path : Bool) (i : ℕ) → i < m → isMajor n ≡ true
       → bit i ((majorly m masks x q t old n path s) .close)
-      ≡ (bit i (s .close) || any jetCount (λ j. bit j (getD masks i 0) && jets.asksAt old (jetSays n path i j x q t) (jetOf i j s)))
+      ≡ (still path i || any jetCount (λ j. bit j (getD masks i 0) && jets.asksAt old (jetSays n path i j x q t) (jetOf i j s)))
   unfolding words.minorCycle words.majorCycle words.pathLost jets.asksAt
   major-cycle-close true i below k = sym (quiet-close true i refl)
   major-cycle-close false i below k = rw k (major-steps-close m i masks x q t old n false s d below p)

@@ -15,7 +15,7 @@ use Rattle.cycle.specs.Banks.{weighedAll}
 use Rattle.cycle.specs.Records.{Record, minor, major, common}
 use Rattle.cycle.specs.Hall.{pastString, sampleOf, noTemperatures, noRequests, minorStrings, majorStrings, taken, steppedBy, stepped}
 use Rattle.cycle.specs.Hall.{recordBothWays, unlessBothWays, verdictOn}
-use Rattle.cycle.specs.Views.{jetSays, jetRecord}
+use Rattle.cycle.specs.Views.{jetSays, jetRecord, dropByte}
 use Rattle.cycle.specs.BothWays.{NamedBothWays}
 use Rattle.cycle.specs.Unmapped.{Alike}
 use Rattle.cycle.specs.declared.answer.Answer.the-variants.{Taken}
@@ -61,9 +61,14 @@ alike-string masks a b alike s l = record {
   driver = λ j e. ap (λ (r : JetRecord). r .driver) (same j e);
   inhibit = λ j e. ap (λ (r : JetRecord). r .inhibit) (same j e);
   reenable = λ j e. ap (λ (r : JetRecord). r .reenable) (same j e);
+  drop = drop-of a ∙ alike .drops s l ∙ sym (drop-of b);
   leak = λ j e. leak-same (temperaturesOf a s) (temperaturesOf b s) j (ap (λ (r : JetRecord). leaks (r .fuel) (r .oxidizer)) (same j e));
 }
   where
+    drop-of : (r : Record) → (requestsOf r s) .drop ≡ dropByte s r
+    drop-of (minor r) = refl
+    drop-of (major r) = refl
+
     says-of : Record → ℕ → ℕ → JetRecord
     says-of r i j = jetSays 0 (bit s ((common r) .path)) i j (sampleOf (common r) s) (requestsOf r s) (temperaturesOf r s)
 

@@ -137,10 +137,10 @@ module _ (m : ℕ) (masks : List ℕ) (j : ℕ) (free : (i : ℕ) → i < m → 
 
   -- ---- steps 5 to 8
 
-  requested-none : (inhibit reenable : ℕ) → bit j inhibit ≡ false → bit j reenable ≡ false → (s : StringState) → NoneOf j s
-      → NoneOf j (requested inhibit reenable s)
+  requested-none : (inhibit reenable drop : ℕ) → bit j inhibit ≡ false → bit j reenable ≡ false → (s : StringState) → NoneOf j s
+      → NoneOf j (requested inhibit reenable drop s)
   unfolding requested
-  requested-none inhibit reenable e f s p =
+  requested-none inhibit reenable drop e f s p =
       record {
         standing = record {
           fail = or-none j (without (s .standing .fail) reenable) inhibit
@@ -202,5 +202,5 @@ module _ (m : ℕ) (masks : List ℕ) (j : ℕ) (free : (i : ℕ) → i < m → 
         kept-none _
         (on-failure-none _ (bad-none x leaking) _
         (rechecked-none _ _
-        (requested-none (bitAnd jets (q .inhibit)) (bitAnd jets (q .reenable)) (and-none j jets (q .inhibit) out)
+        (requested-none (bitAnd jets (q .inhibit)) (bitAnd jets (q .reenable)) (q .drop) (and-none j jets (q .inhibit) out)
         (and-none j jets (q .reenable) out) s p)))

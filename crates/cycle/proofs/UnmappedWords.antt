@@ -1,4 +1,4 @@
--- What a string's cycle does depends only on what a record says of mapped jets, and on its valves and path. Assumes nothing.
+-- What a string's cycle does depends only on what a record says of mapped jets, and on its valves, drops and path. Assumes nothing.
 use mathlib.Core.Path.{_≡_, refl, sym, ap, ap₂, _∙_}
 use mathlib.Core.Bool.{Bool, true, false, cond, _||_}
 use mathlib.Core.List.{List}
@@ -51,6 +51,7 @@ pub record AlikeString (masks : List ℕ) (x y : Sample) (p q : Requests) (t u :
   pub driver : Agree (mapped manifoldCount masks) (x .driver) (y .driver)
   pub inhibit : Agree (mapped manifoldCount masks) (p .inhibit) (q .inhibit)
   pub reenable : Agree (mapped manifoldCount masks) (p .reenable) (q .reenable)
+  pub drop : p .drop ≡ q .drop
   pub leak : Agree (mapped manifoldCount masks) (leakWord t) (leakWord u)
 
 module _ (masks : List ℕ) (x y : Sample) (p q : Requests) (t u : Temperatures) (alike : AlikeString masks x y p q t u) where
@@ -91,8 +92,9 @@ module _ (masks : List ℕ) (x y : Sample) (p q : Requests) (t u : Temperatures)
   unfolding majorSteps
   major-steps-same s =
       ap₂ (λ (bad : ℕ) (z : StringState). kept (onFailure bad (rechecked manifoldCount masks bad z))) bad-same
-      (ap₂ (λ (a b : ℕ). requested a b s) (cut-same jets (p .inhibit) (q .inhibit) (alike .inhibit))
-      (cut-same jets (p .reenable) (q .reenable) (alike .reenable)))
+      (ap₂ (λ (a b : ℕ). requested a b (p .drop) s) (cut-same jets (p .inhibit) (q .inhibit) (alike .inhibit))
+      (cut-same jets (p .reenable) (q .reenable) (alike .reenable))
+      ∙ ap (λ (d : ℕ). requested (bitAnd jets (q .inhibit)) (bitAnd jets (q .reenable)) d s) (alike .drop))
 
   pub major-cycle-same : (path way : Bool) → path ≡ way → (s : StringState)
       → majorCycle manifoldCount masks path x t p s ≡ majorCycle manifoldCount masks way y u q s

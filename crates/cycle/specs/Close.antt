@@ -3,8 +3,7 @@ use mathlib.Core.Path.{_≡_}
 use mathlib.Core.Bool.{Bool, true, false}
 use mathlib.Core.List.{List, [], _∷_}
 use mathlib.Core.Logic.{_⊎_}
-use Prim.Native.Nat.{ℕ, _+_, _<_, _≤_, _%_}
-use Rattle.bits.specs.Bit.{bit}
+use Prim.Native.Nat.{_+_, _<_, _≤_, _%_}
 use Rattle.cycle.specs.Size.{majorEvery}
 use Rattle.cycle.specs.Jets.{JetRecord, isBad, reached, run}
 
@@ -37,14 +36,3 @@ pub record Third (r : JetRecord) (h : List JetRecord) : Type 0 where
   pub before : Some (λ p g. (p .n + majorEvery ≡ r .n) × (isBad p ≡ true) × (reenableInForce p g ≡ false)) h
   pub first : Some (λ p g. (p .n + majorEvery + majorEvery ≡ r .n) × (isBad p ≡ true)) h
   pub pathGood : Every (λ p. r .n ≤ p .n + majorEvery + majorEvery → p .path ≡ false) (r ∷ h)
-
--- the newest record or an earlier one is such a third
-abbrev pub EverThird : List JetRecord → Type 0
-EverThird h = Some Third h
-
--- it is so of one of the jets of `mask`, jet j with the history `history j`
-pub record JetThird (mask : ℕ) (history : ℕ → List JetRecord) : Type 0 where
-  pub jet : ℕ
-  pub inWord : jet < 32
-  pub inMask : bit jet mask ≡ true
-  pub third : EverThird (history jet)

@@ -36,7 +36,7 @@ abbrev pub noTemperatures : Temperatures
 noTemperatures = record { words = [] }
 
 abbrev pub noRequests : Requests
-noRequests = record { inhibit = 0; reenable = 0 }
+noRequests = record { inhibit = 0; reenable = 0; drop = 0 }
 
 abbrev pub pastStanding : Standing
 pastStanding = record { fail = 0; valves = 0; saved = [] }

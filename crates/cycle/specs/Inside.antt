@@ -5,3 +5,5 @@
 pub mod Quiet
 -- runs of the hall over values; what demands 2 and 3 say of reports is said of bytes
 pub mod Runs
+-- drops and thirds as one jet and one manifold have them; demand 3 says them by bytes
+pub mod Drops

@@ -12,7 +12,7 @@ use Rattle.cycle.specs.declared.jet.JetOverrides.{JetOverrides}
 use Rattle.cycle.specs.declared.jet.JetState.{JetState}
 
 -- What a taken record says of one jet: the cycle number it leads to, its string's path bit, the jet's commanded, pressure and driver bits
--- and whether its manifold's valve is open; in a major cycle also the requests that name it and its temperature words.
+-- and whether its manifold's valve is open; in a major cycle also the requests that name it or its manifold, and its temperature words.
 pub record JetRecord : Type 0 where
   pub n : ℕ
   pub path : Bool
@@ -22,8 +22,25 @@ pub record JetRecord : Type 0 where
   pub valve : Bool
   pub inhibit : Bool
   pub reenable : Bool
+  pub drop : Bool
   pub fuel : ℕ
   pub oxidizer : ℕ
+
+-- the same with another drop
+abbrev pub withDrop : Bool → JetRecord → JetRecord
+withDrop drop r = record {
+  n = r .n;
+  path = r .path;
+  commanded = r .commanded;
+  pressure = r .pressure;
+  driver = r .driver;
+  valve = r .valve;
+  inhibit = r .inhibit;
+  reenable = r .reenable;
+  drop = drop;
+  fuel = r .fuel;
+  oxidizer = r .oxidizer;
+}
 
 -- the state with one group written anew
 abbrev pub withStanding : JetStanding → JetState → JetState
@@ -138,6 +155,14 @@ requested true reenable s = inhibited s
 requested false true s = reenabled s
 requested false false s = s
 
+-- 5. 02, order 6: "bit i asks to drop manifold i's close bit", "lost under a path fault as other requests are": is it carried out, at a
+-- record that leads to the cycle number n? It changes nothing of a jet.
+abbrev pub dropDone : Bool → ℕ → Bool → Bool
+dropDone path n drop = not path && isMajor n && drop
+
+abbrev pub dropsAt : JetRecord → Bool
+dropsAt r = dropDone (r .path) (r .n) (r .drop)
+
 -- 6. Recheck (1.3.4.6): "A jet is bad if it is not commanded and one of two holds: its driver is on, or it leaks. A commanded jet is
 -- never bad."
 unfoldable pub isBad : JetRecord → Bool
@@ -204,7 +229,8 @@ unfoldable pub run : List JetRecord → JetState
 run [] = freshJet
 run (r ∷ h) = cycle (reached h) r (run h)
 
--- has it asked for the close bit, "which stays"
-unfoldable pub hasAsked : List JetRecord → Bool
-hasAsked [] = false
-hasAsked (r ∷ h) = hasAsked h || asksAt (reached h) r (run h)
+-- Has it asked for the close bit since the last drop carried out, or since fresh? 02, order 6: "Dropping happens in step 5, so step 6 of
+-- the same cycle may set the bit again".
+unfoldable pub askedSinceDrop : List JetRecord → Bool
+askedSinceDrop [] = false
+askedSinceDrop (r ∷ h) = (askedSinceDrop h && not (dropsAt r)) || asksAt (reached h) r (run h)

@@ -9,7 +9,7 @@ use Rattle.cycle.specs.Size.{stringCount, manifoldCount}
 use Rattle.cycle.specs.Map.{masksOf, inMask}
 use Rattle.cycle.specs.Records.{Record, minor, major, majorKind, common}
 use Rattle.cycle.specs.Hall.{sampleOf, stringOf}
-use Rattle.cycle.specs.Views.{jetRecord}
+use Rattle.cycle.specs.Views.{jetRecord, dropByte}
 use Rattle.cycle.specs.declared.hall.Hall.{Hall}
 use Rattle.cycle.specs.declared.map.Masks.{Masks}
 use Rattle.cycle.specs.declared.string.Standing.{Standing}
@@ -49,6 +49,7 @@ pub record Alike (masks : List Masks) (a b : Record) : Type 0 where
   pub wire : (common a) .wire ≡ (common b) .wire
   pub path : (s : ℕ) → s < stringCount → bit s ((common a) .path) ≡ bit s ((common b) .path)
   pub valves : (s : ℕ) → s < stringCount → (sampleOf (common a) s) .valves ≡ (sampleOf (common b) s) .valves
+  pub drops : (s : ℕ) → s < stringCount → dropByte s a ≡ dropByte s b
   pub jets : (s i j : ℕ) → s < stringCount → i < manifoldCount → inMask (masksOf masks s) i j
       → jetRecord 0 s i j a ≡ jetRecord 0 s i j b
   pub quantities : quantitiesIn a ≡ quantitiesIn b

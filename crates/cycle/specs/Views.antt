@@ -1,5 +1,5 @@
--- What one jet sees: its own bit of the packed words, and its own values of a record. Jet j of string s stands on manifold i.
--- Assumes nothing.
+-- What one jet sees: its own bit of the packed words, and its own values of a record. Jet j of string s stands on manifold i. And what a
+-- record says of a manifold. Assumes nothing.
 use mathlib.Core.Bool.{Bool}
 use Prim.Native.Nat.{ℕ, _+_, _*_}
 use lib.ListN.{getD}
@@ -42,6 +42,7 @@ jetSays n path i j x q t = record {
   valve = bit i (x .valves);
   inhibit = bit j (q .inhibit);
   reenable = bit j (q .reenable);
+  drop = bit i (q .drop);
   fuel = getD (t .words) (2 * j) 0;
   oxidizer = getD (t .words) (2 * j + 1) 0;
 }
@@ -52,3 +53,10 @@ jetRecord n s i j (minor r) = jetSays n (bit s (r .path)) i j (sampleOf r s) noR
 jetRecord n s i j (major r) =
     jetSays n (bit s (r .minor .path)) i j (sampleOf (r .minor) s) (getD (r .requests) s noRequests)
     (getD (r .temperatures) s noTemperatures)
+
+-- ---- of a manifold
+
+-- string s's drop byte; a minor record has none
+abbrev pub dropByte : ℕ → Record → ℕ
+dropByte s (minor r) = 0
+dropByte s (major r) = (getD (r .requests) s noRequests) .drop

@@ -135,14 +135,15 @@ manifolds m masks now s =
     (record { fail = s .standing .fail; reenable = s .over .reenable; saved = s .standing .saved }))
     s
 
--- 5. Requests: where a jet is named both ways, which no taken record does, the inhibit decides
+-- 5. Requests: where a jet is named both ways, which no taken record does, the inhibit decides; the close bits of `drop` go
 abbrev pub overridden : ℕ → ℕ → Overrides → Overrides
 overridden inhibit reenable x = record
     { inhibit = bitOr (without (x .inhibit) reenable) inhibit; reenable = without (bitOr (x .reenable) reenable) inhibit }
 
-unfoldable pub requested : ℕ → ℕ → StringState → StringState
-requested inhibit reenable s =
-    withOver (overridden inhibit reenable (s .over)) (withFail (bitOr (without (s .standing .fail) reenable) inhibit) s)
+unfoldable pub requested : ℕ → ℕ → ℕ → StringState → StringState
+requested inhibit reenable drop s =
+    withClose (without (s .close) drop)
+    (withOver (overridden inhibit reenable (s .over)) (withFail (bitOr (without (s .standing .fail) reenable) inhibit) s))
 
 -- 6. the jets that leak, of a string's words: jet by jet, fuel word then oxidizer word
 abbrev pub jetLeaks : List ℕ → ℕ → Bool
@@ -162,7 +163,7 @@ asksClose mask recheck again = meets (bitAnd mask recheck) again
 unfoldable pub closeBits : ℕ → List ℕ → ℕ → ℕ → ℕ
 closeBits m masks recheck again = pack m (λ i. asksClose (getD masks i 0) recheck again)
 
--- 6. Recheck: the close bit "stays"
+-- 6. Recheck: a close bit stays until it is dropped
 unfoldable pub rechecked : ℕ → List ℕ → ℕ → StringState → StringState
 rechecked m masks bad s = withClose (bitOr (s .close) (closeBits m masks (s .on .recheck) (without bad (s .over .reenable)))) s
 
@@ -186,7 +187,7 @@ minorSteps m masks x gap missed s =
 
 -- step 5; requests of unmapped jets are ignored
 abbrev pub afterRequests : ℕ → List ℕ → Requests → StringState → StringState
-afterRequests m masks q s = requested (bitAnd (mapped m masks) (q .inhibit)) (bitAnd (mapped m masks) (q .reenable)) s
+afterRequests m masks q s = requested (bitAnd (mapped m masks) (q .inhibit)) (bitAnd (mapped m masks) (q .reenable)) (q .drop) s
 
 -- step 6; badness of unmapped jets is ignored
 abbrev pub badOf : ℕ → List ℕ → Sample → ℕ → ℕ

@@ -274,9 +274,9 @@ impl StringState {
         next
     }
 
-    // Step 5. Where both words name a jet, which no taken record does, the inhibit decides.
-    fn requested(mut self, inhibit: u32, reenable: u32) -> StringState
-        ensures { λ r. ⌜ r ≡ requested inhibit reenable self ⌝ }
+    // Step 5. Where both words name a jet, which no taken record does, the inhibit decides. A dropped close bit may be set again in step 6.
+    fn requested(mut self, inhibit: u32, reenable: u32, drop: u32) -> StringState
+        ensures { λ r. ⌜ r ≡ requested inhibit reenable drop self ⌝ }
     {
         let mut standing = self.standing;
         let mut over = self.over;
@@ -285,6 +285,7 @@ impl StringState {
         standing.fail = without(standing.fail, reenable) | inhibit;
         self.over = over;
         self.standing = standing;
+        self.close = without(self.close, drop);
         self
     }
 
@@ -362,7 +363,7 @@ impl StringState {
             let mapped = masks.mapped();
             let leaking = leak_word(mapped, t);
             let bad = bad_jets(mapped, sample.commanded, sample.driver, leaking);
-            let a = self.requested(mapped & q.inhibit, mapped & q.reenable);
+            let a = self.requested(mapped & q.inhibit, mapped & q.reenable, q.drop as u32);
             let b = a.rechecked(masks, bad);
             let d = b.on_failure(bad);
             d.kept()

@@ -23,10 +23,11 @@ pub struct Temperatures {
     pub words: [u16; TEMPERATURES],
 }
 
-// A string's requests.
+// A string's requests: inhibit and re-enable words, and the drop byte (bit i set: manifold i's close bit is to be dropped).
 pub struct Requests {
     pub inhibit: u32,
     pub reenable: u32,
+    pub drop: u8,
 }
 
 // A module's two quantities, in tenths of a percent.

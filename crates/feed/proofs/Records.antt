@@ -12,6 +12,7 @@ pub mod Tables
 pub mod Told
 pub mod HeardValues
 pub mod BadHeard
+pub mod DropHeard
 pub mod BothWaysHeard
 pub mod Carried
 pub mod Padded

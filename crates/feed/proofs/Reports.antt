@@ -9,8 +9,10 @@ pub mod ReportBytes
 pub mod ReportPlaces
 pub mod BalanceBits
 pub mod ReportsTell
-pub mod CloseFirst
 pub mod TakenSo
+pub mod KindsTaken
+pub mod CloseSince
+pub mod CloseFirst
 pub mod BadTaken
 pub mod OneWay
 pub mod ReliedOn

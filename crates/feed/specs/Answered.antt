@@ -1,5 +1,5 @@
 -- 01, "Which answer a record gets": the condition of each answer of a call, by the record r that it settles (its bytes, none where it
--- settles none), the hall and the room in the outbox; and what the call leaves. The numbers are written as document 01 writes or adds them
+-- settles none), the hall and the room in the outbox; and what the call leaves. The numbers are written as the documents write or add them
 -- up. Assumes nothing.
 use mathlib.Core.Path.{_≡_}
 use mathlib.Core.Bool.{true}
@@ -106,14 +106,14 @@ pub data Unfit (l : List ℕ) : Type 0 where
   noMark : (getD l 0 0 ≡ 0x52 → ⊥) → Unfit l
   noKind : 2 ≤ length l → (getD l 1 0 ≡ 0x4D → ⊥) → (getD l 1 0 ≡ 0x4A → ⊥) → Unfit l
   badMinor : getD l 1 0 ≡ 0x4D → 59 ≤ length l → (MinorRecord (take 59 l) → ⊥) → Unfit l
-  badMajor : getD l 1 0 ≡ 0x4A → 615 ≤ length l → (MajorRecord (take 615 l) → ⊥) → Unfit l
+  badMajor : getD l 1 0 ≡ 0x4A → 619 ≤ length l → (MajorRecord (take 619 l) → ⊥) → Unfit l
 
 -- "If they're a mark or the start of one, it waits for the full length."
 pub data Waiting (l : List ℕ) : Type 0 where
   empty : length l ≡ 0 → Waiting l
   begun : length l ≡ 1 → getD l 0 0 ≡ 0x52 → Waiting l
   minor : getD l 0 0 ≡ 0x52 → getD l 1 0 ≡ 0x4D → length l < 59 → Waiting l
-  major : getD l 0 0 ≡ 0x52 → getD l 1 0 ≡ 0x4A → length l < 615 → Waiting l
+  major : getD l 0 0 ≡ 0x52 → getD l 1 0 ≡ 0x4A → length l < 619 → Waiting l
 
 -- The reader after a call that is not answered 5: what was held and what was used of the piece is bytes dropped, the record settled, and
 -- the bytes held then, with zeros behind them. Each byte dropped had to go by what had come, and stood where no whole record starts,
@@ -133,8 +133,8 @@ pub record Read (m : Monitor) (piece : List ℕ) (c : Result) : Type 0 where
   pub settles : recordIn (holds m ++ take (c .outcome .used) piece) ≡ recordIn (holds m ++ piece)
   pub notBefore : (u : ℕ) → u < c .outcome .used → recordIn (holds m ++ take u piece) ≡ []
   pub store : c .outcome .monitor ≡ holding (c .outcome .monitor .hall) held
-  pub zeros : drop (length held) (c .outcome .monitor .held) ≡ replicate (615 - length held) 0
-  pub short : length held ≤ 614
+  pub zeros : drop (length held) (c .outcome .monitor .held) ≡ replicate (619 - length held) 0
+  pub short : length held ≤ 618
 
 -- ---- starting
 

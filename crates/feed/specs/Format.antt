@@ -1,4 +1,4 @@
--- 01, "The feed": the record format, over lists of bytes. Assumes nothing.
+-- 01, "The feed", as 02, order 6, amends it: the record format, over lists of bytes. Assumes nothing.
 use mathlib.Core.Bool.{Bool, true, false, cond, _&&_}
 use mathlib.Core.List.{List, [], _∷_}
 use Prim.Native.Nat.{ℕ, _+_, _-_, _*_, _%_}
@@ -7,7 +7,7 @@ use lib.ListN.{length, getD, take}
 use Rattle.bits.specs.Bit.{every}
 use Rattle.cycle.specs.Size.{stringCount, moduleCount}
 use Rattle.feed.specs.Size.{markByte, minorMark, majorMark, minorLength, majorLength, sumLength, sumSpan, reservedFrom, mostQuantity}
-use Rattle.feed.specs.Size.{pathAt, samplesFrom, sampleLength, valvesIn, quantitiesFrom, quantitiesLength, quantityLength}
+use Rattle.feed.specs.Size.{pathAt, samplesFrom, sampleLength, valvesIn, dropsFrom, quantitiesFrom, quantitiesLength, quantityLength}
 use Rattle.feed.specs.Bytes.{two}
 use Rattle.feed.specs.declared.format.Kind.{Kind}
 use Rattle.feed.specs.declared.format.Kind.the-variants.{Minor, Major}
@@ -41,6 +41,13 @@ valvesZero l s = ltb (getD l (samplesFrom + sampleLength * s + valvesIn) 0) rese
 unfoldable pub reservedZero : List ℕ → Bool
 reservedZero l = pathZero l && every stringCount (valvesZero l)
 
+-- 02, order 6: "one byte a string ..: bit i asks to drop manifold i's close bit; bits 4 to 7 zero": of string s
+abbrev pub dropZero : List ℕ → ℕ → Bool
+dropZero l s = ltb (getD l (dropsFrom + s) 0) reservedFrom
+
+unfoldable pub dropsZero : List ℕ → Bool
+dropsZero l = every stringCount (dropZero l)
+
 -- "for each module fuel then oxidizer, 2 bytes each, in tenths of a percent, at most 1,000": the two from place i on
 abbrev pub twoRight : List ℕ → ℕ → Bool
 twoRight l i = leb (two l i) mostQuantity && leb (two l (i + quantityLength)) mostQuantity
@@ -52,7 +59,7 @@ unfoldable pub goodMinor : List ℕ → Bool
 goodMinor l = sumRight minorLength l && reservedZero l
 
 unfoldable pub goodMajor : List ℕ → Bool
-goodMajor l = sumRight majorLength l && reservedZero l && quantitiesRight l
+goodMajor l = sumRight majorLength l && reservedZero l && dropsZero l && quantitiesRight l
 
 -- ---- the table of kinds: the second byte of the mark, the length, what makes a full record good
 
@@ -61,7 +68,7 @@ pub record Row : Type 0 where
   pub long : ℕ
   pub good : List ℕ → Bool
 
--- "Minor record, 59 bytes: mark 52 4D (hex)"; "Major record, 615 bytes: mark 52 4A"
+-- "Minor record, 59 bytes: mark 52 4D (hex)"; "Major record, ..: mark 52 4A", 02, order 6: "now 619 bytes"
 unfoldable pub rowOf : Kind → Row
 rowOf Minor = record { mark = minorMark; long = minorLength; good = goodMinor }
 rowOf Major = record { mark = majorMark; long = majorLength; good = goodMajor }

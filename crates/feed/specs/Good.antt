@@ -1,4 +1,5 @@
--- 01, "The feed": what a whole record is, by its bytes alone. The numbers are written as document 01 writes them. Assumes nothing.
+-- 01, "The feed": what a whole record is, by its bytes alone. The numbers are written as documents 01 and 02 write or add them up.
+-- Assumes nothing.
 use mathlib.Core.Path.{_≡_}
 use mathlib.Core.List.{List}
 use mathlib.Core.Logic.{_⊎_}
@@ -12,13 +13,17 @@ pub record ReservedZero (r : List ℕ) : Type 0 where
   pub path : getD r 4 0 < 16
   pub valves : (s : ℕ) → s < 4 → getD r (5 + 13 * s + 12) 0 < 16
 
+-- 02, order 6: "one byte a string after the re-enable words of all strings: ..; bits 4 to 7 zero"
+abbrev pub DropsZero : List ℕ → Type 0
+DropsZero r = (s : ℕ) → s < 4 → getD r (601 + s) 0 < 16
+
 -- "sum, 2 bytes: all earlier bytes of the record, mark included, added modulo 65,536"
 abbrev pub SumRight : List ℕ → Type 0
 SumRight r = two r (length r - 2) ≡ total (take (length r - 2) r) % 65536
 
 -- "for each module fuel then oxidizer, 2 bytes each, in tenths of a percent, at most 1,000"
 abbrev pub QuantitiesRight : List ℕ → Type 0
-QuantitiesRight r = (i : ℕ) → i < 6 → two r (601 + 2 * i) ≤ 1000
+QuantitiesRight r = (i : ℕ) → i < 6 → two r (605 + 2 * i) ≤ 1000
 
 -- "Minor record, 59 bytes: mark 52 4D (hex)"
 pub record MinorRecord (r : List ℕ) : Type 0 where
@@ -27,12 +32,13 @@ pub record MinorRecord (r : List ℕ) : Type 0 where
   pub sum : SumRight r
   pub reserved : ReservedZero r
 
--- "Major record, 615 bytes: mark 52 4A"
+-- "Major record, ..: mark 52 4A"; 02, order 6: "now 619 bytes"
 pub record MajorRecord (r : List ℕ) : Type 0 where
-  pub long : length r ≡ 615
+  pub long : length r ≡ 619
   pub mark : (getD r 0 0 ≡ 0x52) × (getD r 1 0 ≡ 0x4A)
   pub sum : SumRight r
   pub reserved : ReservedZero r
+  pub drops : DropsZero r
   pub quantities : QuantitiesRight r
 
 abbrev pub WholeRecord : List ℕ → Type 0

@@ -1,5 +1,5 @@
--- What a taken record says of one jet and of one module, read off its bytes: 01, "The feed", place by place. The numbers are written as
--- document 01 writes or adds them up. Lists are the newest first. Assumes nothing.
+-- What a taken record says of one jet and of one module, read off its bytes: 01, "The feed", place by place, as 02, order 6, amends
+-- it. The numbers are written as the documents write or add them up. Lists are the newest first. Assumes nothing.
 use mathlib.Core.Path.{_≡_}
 use mathlib.Core.Bool.{true, false, cond}
 use mathlib.Core.List.{List, [], _∷_}
@@ -37,7 +37,8 @@ inMajor r x = cond (eqb (getD r 1 0) 0x4A) x 0
 
 -- Jet j on manifold i of string s. "path byte (bit s ..); for each string 13 bytes: commanded C (4), pressure P (4), driver D (4),
 -- valve-open V (1; bit i for manifold i, ..)"; "512 bytes of injector temperatures (string by string, jet by jet, fuel word then oxidizer
--- word); for each string an inhibit word and a re-enable word (4 bytes each)".
+-- word); for each string an inhibit word and a re-enable word (4 bytes each)"; 02, order 6: "one byte a string after the re-enable words of
+-- all strings: bit i asks to drop manifold i's close bit".
 abbrev pub jetHeard : ℕ → ℕ → ℕ → Heard → JetRecord
 jetHeard s i j t = record {
   n = t .n;
@@ -48,6 +49,7 @@ jetHeard s i j t = record {
   valve = bit i (getD (t .bytes) (17 + 13 * s) 0);
   inhibit = bit j (inMajor (t .bytes) (four (t .bytes) (569 + 8 * s)));
   reenable = bit j (inMajor (t .bytes) (four (t .bytes) (573 + 8 * s)));
+  drop = bit i (inMajor (t .bytes) (getD (t .bytes) (601 + s) 0));
   fuel = inMajor (t .bytes) (two (t .bytes) (57 + 128 * s + 4 * j));
   oxidizer = inMajor (t .bytes) (two (t .bytes) (59 + 128 * s + 4 * j));
 }
@@ -60,6 +62,13 @@ BadSaid s j r =
     × ((bit j (four r (13 + 13 * s)) ≡ true)
     ⊎ ((signed (two r (57 + 128 * s + 4 * j)) ≤ℤ pos 63) ⊎ (signed (two r (59 + 128 * s + 4 * j)) ≤ℤ pos 63)))
 
+-- Step 5 for manifold i of string s, by a taken record's bytes r: its drop is carried out. 02, order 6: "bit i asks to drop manifold i's
+-- close bit", "it is lost under a path fault as other requests are".
+pub record DropCarriedOut (s i : ℕ) (r : List ℕ) : Type 0 where
+  pub mark : getD r 1 0 ≡ 0x4A
+  pub path : bit s (getD r 4 0) ≡ false
+  pub asked : bit i (getD r (601 + s) 0) ≡ true
+
 -- what the records taken say of the jet
 abbrev pub jetHistory : ℕ → ℕ → ℕ → List Heard → List JetRecord
 jetHistory s i j ts = historyBy (jetHeard s i j) ts
@@ -69,4 +78,4 @@ abbrev pub bankHeard : ℕ → List Heard → Bank
 bankHeard m [] = noBank
 bankHeard m (t ∷ ts) =
     cond (eqb (getD (t .bytes) 1 0) 0x4A)
-    (weighed (record { fuel = two (t .bytes) (601 + 4 * m); oxidizer = two (t .bytes) (603 + 4 * m) })) (bankHeard m ts)
+    (weighed (record { fuel = two (t .bytes) (605 + 4 * m); oxidizer = two (t .bytes) (607 + 4 * m) })) (bankHeard m ts)

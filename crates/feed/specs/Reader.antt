@@ -38,7 +38,7 @@ reads h (b ∷ p) =
 abbrev pub store : List ℕ → List ℕ
 store l = l ++ replicate (storeLength - length l) 0
 
--- "A state handed in that claims more than 614 held bytes is read as holding none"
+-- 02, order 6: "a state handed in is read as holding none only if it claims more than 618"
 abbrev pub heldCount : ℕ → ℕ
 heldCount count = cond (ltb mostHeld count) 0 count
 

@@ -1,5 +1,6 @@
--- The sizes and limits of 01, "The feed" and "Which answer a record gets", each under one name; src/size.rt says the same. Lengths and
--- places follow from the parts; that they are the numbers that 01 writes is said in proofs/Numerals. Assumes nothing.
+-- The sizes and limits of 01, "The feed" and "Which answer a record gets", as 02, order 6, amends them, each under one name; src/size.rt
+-- says the same. Lengths and places follow from the parts; that they are the numbers that the documents write is said in proofs/Numerals.
+-- Assumes nothing.
 use Prim.Native.Nat.{ℕ, _+_, _-_, _*_}
 use Rattle.cycle.specs.Size.{stringCount, jetCount, manifoldCount, moduleCount}
 
@@ -83,9 +84,13 @@ requestsFrom = temperaturesFrom + stringCount * temperaturesLength
 abbrev pub requestsLength : ℕ
 requestsLength = 2 * wordLength
 
+-- 02, order 6: "one byte a string after the re-enable words of all strings"
+abbrev pub dropsFrom : ℕ
+dropsFrom = requestsFrom + stringCount * requestsLength
+
 -- "for each module fuel then oxidizer, 2 bytes each"
 abbrev pub quantitiesFrom : ℕ
-quantitiesFrom = requestsFrom + stringCount * requestsLength
+quantitiesFrom = dropsFrom + stringCount
 
 abbrev pub quantitiesLength : ℕ
 quantitiesLength = 2 * quantityLength
@@ -94,7 +99,7 @@ quantitiesLength = 2 * quantityLength
 abbrev pub majorSummed : ℕ
 majorSummed = quantitiesFrom + moduleCount * quantitiesLength
 
--- "Major record, 615 bytes"
+-- 02, order 6: "The record is now 619 bytes"
 abbrev pub majorLength : ℕ
 majorLength = majorSummed + sumLength
 
@@ -102,7 +107,7 @@ majorLength = majorSummed + sumLength
 abbrev pub leastLength : ℕ
 leastLength = minorLength
 
--- none is longer; "Between calls the reader never holds more than 614 bytes"
+-- none is longer; 02, order 6: "the reader holds at most 618"
 abbrev pub storeLength : ℕ
 storeLength = majorLength
 

@@ -6,7 +6,7 @@ use Prim.Native.Nat.{ℕ, _+_, _*_, _<_, _≤_}
 use lib.ListN.{length, getD}
 use Rattle.bits.specs.Bit.{bit, any}
 use Rattle.cycle.specs.Answers.{numberOf}
-use Rattle.cycle.specs.Jets.{run, hasAsked}
+use Rattle.cycle.specs.Jets.{run, askedSinceDrop}
 use Rattle.cycle.specs.Map.{masksOf, inMask}
 use Rattle.cycle.specs.declared.answer.Answer.{Answer}
 use Rattle.cycle.specs.declared.map.Masks.{Masks}
@@ -27,10 +27,11 @@ pub record Tells (masks : List Masks) (a : Answer) (ts : List Heard) (report : L
   -- "bits .. of jets in no mask .. are 0 in reports"
   pub noMask : (s j : ℕ) → s < 4 → ((i : ℕ) → i < 4 → inMask (masksOf masks s) i j → ⊥)
       → bit j (four report (7 + 5 * s)) ≡ false
-  -- "Each manifold with a jet in the recheck word that is bad and not re-enabled gets its close bit, which stays."
+  -- "Each manifold with a jet in the recheck word that is bad and not re-enabled gets its close bit"; 02, order 6: it stays until a drop is
+  -- carried out
   pub close : (s i : ℕ) → s < 4 → i < 4
       → bit i (getD report (7 + 5 * s + 4) 0)
-      ≡ any 32 (λ j. bit j (getD (masksOf masks s) i 0) && hasAsked (jetHistory s i j ts))
+      ≡ any 32 (λ j. bit j (getD (masksOf masks s) i 0) && askedSinceDrop (jetHistory s i j ts))
   pub noManifold : (s i : ℕ) → s < 4 → 4 ≤ i → bit i (getD report (7 + 5 * s + 4) 0) ≡ false
   -- "Balance: bit m set if module m is out of balance, bit 4+m if its oxidizer is the lesser."
   pub unbalanced : (m : ℕ) → m < 3 → bit m (getD report 27 0) ≡ (bankHeard m ts) .unbalanced

@@ -14,8 +14,8 @@ use Rattle.cycle.specs.declared.values.Requests.{Requests}
 use Rattle.cycle.specs.declared.values.Quantities.{Quantities}
 use Rattle.cycle.specs.declared.values.Major.{Major}
 use Rattle.feed.specs.Size.{wordLength, temperatureLength, quantityLength, wireAt, pathAt, samplesFrom, valvesIn, sampleLength}
-use Rattle.feed.specs.Size.{temperaturesFrom, temperatureCount, temperaturesLength, requestsFrom, requestsLength, quantitiesFrom}
-use Rattle.feed.specs.Size.{quantitiesLength, majorMark}
+use Rattle.feed.specs.Size.{temperaturesFrom, temperatureCount, temperaturesLength, requestsFrom, requestsLength, dropsFrom}
+use Rattle.feed.specs.Size.{quantitiesFrom, quantitiesLength, majorMark}
 use Rattle.feed.specs.Bytes.{two, four}
 
 -- "for each string 13 bytes: commanded C (4), pressure P (4), driver D (4), valve-open V (1; ..)"
@@ -44,12 +44,12 @@ temperaturesAt l i = record { words = wordsAt l i }
 unfoldable pub temperaturesOf : List ℕ → List Temperatures
 temperaturesOf l = table stringCount (λ s. temperaturesAt l (temperaturesFrom + temperaturesLength * s))
 
--- "for each string an inhibit word and a re-enable word (4 bytes each)"
-abbrev pub requestsAt : List ℕ → ℕ → Requests
-requestsAt l i = record { inhibit = four l i; reenable = four l (i + wordLength) }
+-- "for each string an inhibit word and a re-enable word (4 bytes each)", from place i on; 02, order 6: the drop byte, at place k
+abbrev pub requestsAt : List ℕ → ℕ → ℕ → Requests
+requestsAt l i k = record { inhibit = four l i; reenable = four l (i + wordLength); drop = getD l k 0 }
 
 unfoldable pub requestsOf : List ℕ → List Requests
-requestsOf l = table stringCount (λ s. requestsAt l (requestsFrom + requestsLength * s))
+requestsOf l = table stringCount (λ s. requestsAt l (requestsFrom + requestsLength * s) (dropsFrom + s))
 
 -- "for each module fuel then oxidizer, 2 bytes each"
 abbrev pub quantitiesAt : List ℕ → ℕ → Quantities

@@ -3,10 +3,11 @@ ghost use mathlib.Core.Path.{_≡_};
 ghost use Prim.Native.Nat.{_+_, _≤_};
 ghost use lib.ListN.{length};
 ghost use Rattle.feed.specs.Size.{minorLength, majorLength, quantitiesLength};
-ghost use Rattle.feed.specs.Format.{markOf, lengthOf, lengthMarked, sumOf, reservedZero, twoRight, quantitiesRight};
+ghost use Rattle.feed.specs.Format.{markOf, lengthOf, lengthMarked, sumOf, reservedZero, dropsZero, twoRight, quantitiesRight};
 ghost use Rattle.feed.specs.Format.{goodMinor, goodMajor, goodKind, fullLook, look};
 use crate::bytes::two_at;
 use crate::bytes::wide16;
+use crate::size::DROPS_FROM;
 use crate::size::MAJOR_LENGTH;
 use crate::size::MAJOR_MARK;
 use crate::size::MAJOR_SUMMED;
@@ -107,6 +108,20 @@ fn reserved_zero(s: &[u8]) -> bool
     (s[PATH_AT] < RESERVED_FROM) & valves
 }
 
+// Are the reserved bits of every string's drop byte zero?
+fn drops_zero(s: &[u8]) -> bool
+    requires { ⌜ majorLength ≤ length (now s) ⌝ }
+    ensures { λ r. ⌜ r ≡ dropsZero (now (s .entry)) ⌝ }
+{
+    let mut zero = true;
+    let mut k: usize = 0;
+    while k < STRINGS {
+        zero = zero & (s[DROPS_FROM + k] < RESERVED_FROM);
+        k += 1;
+    }
+    zero
+}
+
 // Are the two quantities from `i` on at most 1,000?
 fn module_right(s: &[u8], i: usize) -> bool
     requires { ⌜ i + quantitiesLength ≤ length (now s) ⌝ }
@@ -152,7 +167,7 @@ fn good_major(s: &[u8]) -> bool
     if two_at(s, MAJOR_SUMMED) != sum(&s[..MAJOR_SUMMED]) {
         return false;
     }
-    quantities_right(s)
+    drops_zero(s) & quantities_right(s)
 }
 
 // Is the full record of this kind at the front good?

@@ -41,7 +41,8 @@ pub const MINOR_SUMMED: usize = SAMPLES_FROM + STRINGS * SAMPLE_LENGTH;
 
 pub const MINOR_LENGTH: usize = MINOR_SUMMED + SUM_LENGTH;
 
-// A major record goes on with two temperature words for each jet, two request words for each string, two quantities for each module.
+// A major record goes on with two temperature words for each jet, two request words for each string, then a drop byte for each, and two
+// quantities for each module.
 pub const TEMPERATURES_FROM: usize = MINOR_SUMMED;
 
 pub const TEMPERATURES_LENGTH: usize = TEMPERATURES * TEMPERATURE_LENGTH;
@@ -50,7 +51,9 @@ pub const REQUESTS_FROM: usize = TEMPERATURES_FROM + STRINGS * TEMPERATURES_LENG
 
 pub const REQUESTS_LENGTH: usize = 2 * WORD_LENGTH;
 
-pub const QUANTITIES_FROM: usize = REQUESTS_FROM + STRINGS * REQUESTS_LENGTH;
+pub const DROPS_FROM: usize = REQUESTS_FROM + STRINGS * REQUESTS_LENGTH;
+
+pub const QUANTITIES_FROM: usize = DROPS_FROM + STRINGS;
 
 pub const QUANTITIES_LENGTH: usize = 2 * QUANTITY_LENGTH;
 
@@ -66,7 +69,7 @@ pub const STORE: usize = MAJOR_LENGTH;
 
 pub const MOST_HELD: usize = STORE - 1;
 
-// Bits 4 to 7 of the path byte and of a valve byte are zero.
+// Bits 4 to 7 of the path byte, of a valve byte and of a drop byte are zero.
 pub const RESERVED_FROM: u8 = 16;
 
 // A quantity is at most this many tenths of a percent.

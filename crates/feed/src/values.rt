@@ -1,6 +1,6 @@
 // The values of a record: its bytes as the cycle rules take them.
 ghost use mathlib.Core.Path.{_≡_};
-ghost use Prim.Native.Nat.{_+_, _≤_};
+ghost use Prim.Native.Nat.{_+_, _≤_, _<_};
 ghost use lib.ListN.{length};
 ghost use Rattle.feed.specs.Size.{sampleLength, temperaturesLength, requestsLength, quantitiesLength, minorLength, majorLength};
 ghost use Rattle.feed.specs.Values.{sampleAt, samplesOf, minorOf, temperaturesAt, temperaturesOf, requestsAt, requestsOf};
@@ -9,6 +9,7 @@ ghost use Rattle.feed.specs.Reader.{store};
 use crate::bytes::four_at;
 use crate::bytes::two_at;
 use crate::reader::copy;
+use crate::size::DROPS_FROM;
 use crate::size::MAJOR_LENGTH;
 use crate::size::MINOR_LENGTH;
 use crate::size::PATH_AT;
@@ -109,13 +110,15 @@ fn temperatures_of(s: &[u8]) -> [Temperatures; STRINGS]
     all
 }
 
-fn requests_at(s: &[u8], i: usize) -> Requests
-    requires { ⌜ i + requestsLength ≤ length (now s) ⌝ }
-    ensures { λ r. ⌜ r ≡ requestsAt (now (s .entry)) i ⌝ }
+// One string's request words, from `i` on, and its drop byte, at `k`.
+fn requests_at(s: &[u8], i: usize, k: usize) -> Requests
+    requires { ⌜ (i + requestsLength ≤ length (now s)) × (k < length (now s)) ⌝ }
+    ensures { λ r. ⌜ r ≡ requestsAt (now (s .entry)) i k ⌝ }
 {
     Requests {
         inhibit: four_at(s, i),
         reenable: four_at(s, i + WORD_LENGTH),
+        drop: s[k],
     }
 }
 
@@ -126,11 +129,12 @@ pub(crate) fn requests_of(s: &[u8]) -> [Requests; STRINGS]
     let none = Requests {
         inhibit: 0,
         reenable: 0,
+        drop: 0,
     };
     let mut all = [none; STRINGS];
     let mut k: usize = 0;
     while k < STRINGS {
-        all[k] = requests_at(s, REQUESTS_FROM + REQUESTS_LENGTH * k);
+        all[k] = requests_at(s, REQUESTS_FROM + REQUESTS_LENGTH * k, DROPS_FROM + k);
         k += 1;
     }
     all

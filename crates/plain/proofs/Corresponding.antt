@@ -1,6 +1,6 @@
 -- Both engines step alike: from corresponding states, a record gets the same answer and leads to corresponding states. Assumes nothing.
 use mathlib.Core.Path.{_≡_, refl, sym, ap, ap₂, _∙_}
-use mathlib.Core.Bool.{Bool, true, false, _&&_, _||_}
+use mathlib.Core.Bool.{Bool, not, true, false, _&&_, _||_}
 use mathlib.Core.List.{List}
 use mathlib.Core.Logic.{_⊎_, inl, inr, ⊎-elim}
 use Prim.Native.Nat.{ℕ, _<_}
@@ -35,7 +35,7 @@ use Rattle.cycle.proofs.Verdicts.{verdict-follows}
 use Rattle.cycle.proofs.HallAgrees.{jet-after, close-after, number-after, map-after}
 use Rattle.plain.specs.Jet.{by, stateOf, placeOf, withState, freshOn, recordOf, mappedJet}
 use Rattle.plain.specs.Said.{silent, pastString, openedRecord}
-use Rattle.plain.specs.String.{jetAt, saidAt, cycle, stringBothWays}
+use Rattle.plain.specs.String.{jetAt, saidAt, dropAt, cycle, stringBothWays}
 use Rattle.plain.specs.Hall.{stringAt, cycles, bothWays, recordBothWays, taken, verdictOn, steppedBy, stepped}
 use Rattle.plain.specs.Corresponds.{Corresponds}
 use Rattle.plain.specs.declared.jet.Jet.{Jet}
@@ -45,7 +45,7 @@ use Rattle.plain.specs.declared.said.StringSaid.{StringSaid}
 use Rattle.plain.specs.declared.string.PlainString.{PlainString}
 use Rattle.plain.specs.declared.hall.Plain.{Plain}
 use Rattle.plain.proofs.Jets.{Whole, cycle-jet, cycle-still, cycle-close, cycle-whole}
-use Rattle.plain.proofs.Opened.{said-jet, heard-same}
+use Rattle.plain.proofs.Opened.{said-path, said-jet, said-drop, heard-same}
 
 -- an engine with all its strings
 pub record WholePlain (p : Plain) : Type 0 where
@@ -203,10 +203,16 @@ module _ (h : Hall) (p : Plain) (proper : ProperHall h) (w : WholePlain p) (k : 
     abbrev saidOf : ℕ → StringSaid
     saidOf s = getD (openedRecord r (p .strings)) s silent
 
+    -- what the plain engine hears of jet j of string s
+    abbrev heardBy : ℕ → ℕ → JetRecord
+    heardBy s j = recordOf (next .n) ((saidOf s) .path) (dropAt (saidOf s) (placeOf ((jetIn s j) .place))) (saidAt (saidOf s) j)
+
     -- what both say of jet j of string s on manifold i
     alike : (s i j : ℕ) → s < stringCount → i < manifoldCount → inMask (masksAt s) i j
-        → recordOf (next .n) ((saidOf s) .path) (saidAt (saidOf s) j) ≡ jetRecord (next .n) s i j r
-    alike s i j b l stands = heard-same (next .n) r (p .strings) s i j b (inside s i j b l stands) (place-mapped s i j b l stands)
+        → heardBy s j ≡ jetRecord (next .n) s i j r
+    alike s i j b l stands =
+        ap (λ (m : ℕ). recordOf (next .n) ((saidOf s) .path) (dropAt (saidOf s) m) (saidAt (saidOf s) j)) (place-mapped s i j b l stands)
+        ∙ heard-same (next .n) r (p .strings) s i j b l (inside s i j b l stands) (place-mapped s i j b l stands)
 
     taken-mapped : (s i j : ℕ) → s < stringCount → i < manifoldCount → inMask (masksAt s) i j
         → jetAt ((stringAt (taken r next p) s) .jets) j ≡ withState (On i) (jetOf i j (stringOf (packed.taken r next h) s))
@@ -214,7 +220,7 @@ module _ (h : Hall) (p : Plain) (proper : ProperHall h) (w : WholePlain p) (k : 
         ap (λ (x : PlainString). jetAt (x .jets) j) (string-after r next p w s b)
         ∙ cycle-jet (saidOf s) next (stringAt p s) (w .each s b) (h .n) (majorKind r) (f .gap) (f .missed) (f .kind) j
         (inside s i j b l stands) (is-mapped s i j b l stands)
-        ∙ ap (by (jets.cycle (h .n) (recordOf (next .n) ((saidOf s) .path) (saidAt (saidOf s) j)))) (k .mapped s i j b l stands)
+        ∙ ap (by (jets.cycle (h .n) (heardBy s j))) (k .mapped s i j b l stands)
         ∙ ap (λ (q : JetRecord). withState (On i) (jets.cycle (h .n) q (jetOf i j (stringOf h s)))) (alike s i j b l stands)
         ∙ ap (withState (On i)) (sym (jet-after h proper ((common r) .wire) next s b r f i j l stands))
 
@@ -231,18 +237,21 @@ module _ (h : Hall) (p : Plain) (proper : ProperHall h) (w : WholePlain p) (k : 
     taken-closes s i b l =
         ap (λ (x : PlainString). getD (x .close) i false) (string-after r next p w s b)
         ∙ cycle-close (saidOf s) next (stringAt p s) (w .each s b) (h .n) (majorKind r) (f .gap) (f .missed) (f .kind) i l
-        ∙ ap₂ (λ (x y : Bool). x || y) (k .closes s i b l) (any-same jetCount _ _ asks)
+        ∙ ap₂ (λ (x y : Bool). x || y)
+        (ap₂ (λ (x y : Bool). x && not y) (k .closes s i b l)
+        (ap₂ (λ (x y : Bool). jets.dropDone x (next .n) y) (said-path r (p .strings) s b) (said-drop r (p .strings) s i b l)))
+        (any-same jetCount _ _ asks)
         ∙ sym (close-after h proper ((common r) .wire) next s b r f i l)
       where
         asks : (j : ℕ) → j < jetCount
             → (eqb (placeOf ((jetIn s j) .place)) i
-            && jets.asksAt (h .n) (recordOf (next .n) ((saidOf s) .path) (saidAt (saidOf s) j)) (stateOf (jetIn s j)))
+            && jets.asksAt (h .n) (heardBy s j) (stateOf (jetIn s j)))
             ≡ (bit j (getD (masksAt s) i 0) && jets.asksAt (h .n) (jetRecord (next .n) s i j r) (jetOf i j (stringOf h s)))
         asks j c = by-bit (bit j (getD (masksAt s) i 0)) refl
           where
             by-bit : (t : Bool) → bit j (getD (masksAt s) i 0) ≡ t
                 → (eqb (placeOf ((jetIn s j) .place)) i
-                && jets.asksAt (h .n) (recordOf (next .n) ((saidOf s) .path) (saidAt (saidOf s) j)) (stateOf (jetIn s j)))
+                && jets.asksAt (h .n) (heardBy s j) (stateOf (jetIn s j)))
                 ≡ (t && jets.asksAt (h .n) (jetRecord (next .n) s i j r) (jetOf i j (stringOf h s)))
             by-bit true e =
                 rw (stands-on s i j b l c, e, alike s i j b l e)

@@ -21,7 +21,7 @@ use Rattle.cycle.specs.declared.values.Sample.{Sample}
 use Rattle.cycle.specs.declared.values.Temperatures.{Temperatures}
 use Rattle.feed.proofs.Records.Tables.{table-same}
 use Rattle.plain.specs.Jet.{placeOf, pastJet}
-use Rattle.plain.specs.Said.{jetSaid, pastString, stringSaid, opened}
+use Rattle.plain.specs.Said.{jetSaid, pastString, dropsSaid, stringSaid, opened}
 use Rattle.plain.specs.Map.{refused}
 use Rattle.plain.specs.Hall.{freshPlain, started, recordBothWays, taken, verdictOn, steppedBy, stepped}
 use Rattle.plain.specs.declared.jet.Jet.{Jet}
@@ -65,7 +65,8 @@ word-none (suc k) (suc i) = word-none k i
 module _ (path : Bool) (x : Sample) (k : ℕ) (jets : List Jet) where
   zero-string : stringSaid path x noRequests (zeroWords k) jets ≡ stringSaid path x noRequests noTemperatures jets
   unfolding stringSaid
-  zero-string = ap (λ (l : List JetSaid). record { path = path; jets = l }) (table-same _ _ jetCount (λ j h. jet j))
+  zero-string =
+      ap (λ (l : List JetSaid). record { path = path; drops = dropsSaid noRequests; jets = l }) (table-same _ _ jetCount (λ j h. jet j))
     where
       jet : (j : ℕ)
           → jetSaid x noRequests (zeroWords k) (placeOf ((getD jets j pastJet) .place)) j

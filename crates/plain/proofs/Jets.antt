@@ -7,7 +7,7 @@ use native.Mathlib.Omega.{arith}
 use lib.Dec.{eqb}
 use lib.ListN.{length, getD}
 use Rattle.bits.specs.Bit.{any}
-use Rattle.bits.proofs.Yes.{and-false, or-false}
+use Rattle.bits.proofs.Yes.{and-true, and-false, or-false}
 use Rattle.bits.proofs.Words.{any-same, any-none}
 use Rattle.cycle.specs.Size.{jetCount, manifoldCount}
 use Rattle.cycle.specs.Numbers.{isMajor, missedCycle, missedMajor}
@@ -16,8 +16,9 @@ use Rattle.cycle.specs.Jets.{JetRecord}
 use Rattle.cycle.specs.declared.number.Next.{Next}
 use Rattle.cycle.proofs.Each.{each-length, each-at}
 use Rattle.plain.specs.Jet.{by, stateOf, placeOf, pastJet, recordOf, minorRules, mappedJet}
-use Rattle.plain.specs.String.{jetAt, saidAt, badAt, eachOf, lostRule, minorRule, requestRule, failRule, keptRule, keepRule, someAsks, closes}
-use Rattle.plain.specs.String.{pathLost, minorSteps, majorSteps, steps, cycle}
+use Rattle.plain.specs.String.{jetAt, saidAt, badAt, eachOf, lostRule, minorRule, requestRule, failRule, keptRule, keepRule, someAsks}
+use Rattle.plain.specs.String.{closes}
+use Rattle.plain.specs.String.{dropAt, closeLeft, pathLost, minorSteps, majorSteps, steps, cycle}
 use Rattle.plain.specs.declared.jet.Jet.{Jet}
 use Rattle.plain.specs.declared.said.StringSaid.{StringSaid}
 use Rattle.plain.specs.declared.string.PlainString.{PlainString}
@@ -36,7 +37,18 @@ module _ (rule : ℕ → Jet → Jet) (l : List Jet) where
   unfolding eachOf
   each-jet long j b = each-at rule pastJet l jetCount j b (omega arith)
 
--- the close bits at step 6
+-- the close bits at step 5
+module _ (said : StringSaid) (close : List Bool) where
+  left-long : length (closeLeft manifoldCount said close) ≡ length close
+  unfolding closeLeft
+  left-long = each-length _ false close manifoldCount
+
+  left-at : length close ≡ manifoldCount → (i : ℕ) → i < manifoldCount
+      → getD (closeLeft manifoldCount said close) i false ≡ (getD close i false && not (dropAt said i))
+  unfolding closeLeft
+  left-at long i b = each-at _ false close manifoldCount i b (omega arith)
+
+-- and at step 6
 module _ (said : StringSaid) (l : List Jet) (close : List Bool) where
   closes-long : length (closes manifoldCount said l close) ≡ length close
   unfolding closes
@@ -84,7 +96,7 @@ module _ (said : StringSaid) (next : Next) (s : PlainString) (w : Whole s) where
   -- ---- as the rules say
 
   abbrev heard : ℕ → JetRecord
-  heard j = recordOf (next .n) (said .path) (saidAt said j)
+  heard j = recordOf (next .n) (said .path) (dropAt said (placeOf ((jetAt (s .jets) j) .place))) (saidAt said j)
 
   module _ (old : ℕ) (major : Bool) (gap : next .gap ≡ missedCycle old (next .n)) (missed : next .missed ≡ missedMajor old (next .n))
       (kind : isMajor (next .n) ≡ major) where
@@ -165,7 +177,7 @@ module _ (said : StringSaid) (next : Next) (s : PlainString) (w : Whole s) where
 
     pub cycle-close : (i : ℕ) → i < manifoldCount
         → getD ((cycle said next major s) .close) i false
-        ≡ (getD (s .close) i false
+        ≡ ((getD (s .close) i false && not (jets.dropDone (said .path) (next .n) (dropAt said i)))
         || any jetCount
         (λ j. eqb (placeOf ((jetAt (s .jets) j) .place)) i && jets.asksAt old (heard j) (stateOf (jetAt (s .jets) j))))
     unfolding cycle jets.asksAt
@@ -173,15 +185,15 @@ module _ (said : StringSaid) (next : Next) (s : PlainString) (w : Whole s) where
         step (said .path) major
         ∙ ap
         (λ (m : Bool).
-        getD (s .close) i false
+        (getD (s .close) i false && not (not (said .path) && m && dropAt said i))
         || any jetCount (λ j. eqb (placeOf ((jetAt (s .jets) j) .place)) i && (not (said .path) && m && asking j)))
         (sym kind)
       where
         asking : ℕ → Bool
         asking j = jets.asks (jets.isBad (heard j)) (jets.afterRequests old (heard j) (stateOf (jetAt (s .jets) j)))
 
-        never : (f : ℕ → Bool) → (b : Bool) → b ≡ (b || any jetCount (λ j. f j && false))
-        never f b = sym (ap (λ (x : Bool). b || x) (any-none jetCount _ (λ j k. and-false (f j))) ∙ or-false b)
+        never : (f : ℕ → Bool) → (b : Bool) → b ≡ ((b && true) || any jetCount (λ j. f j && false))
+        never f b = sym (ap₂ (λ (x y : Bool). x || y) (and-true b) (any-none jetCount _ (λ j k. and-false (f j))) ∙ or-false b)
 
         here : ℕ → Bool
         here j = eqb (placeOf ((jetAt (s .jets) j) .place)) i
@@ -192,10 +204,11 @@ module _ (said : StringSaid) (next : Next) (s : PlainString) (w : Whole s) where
             (cond m (majorSteps said (minorSteps said (next .gap) (next .missed) s)) (minorSteps said (next .gap) (next .missed)
             s))) .close)
             i false
-            ≡ (getD (s .close) i false || any jetCount (λ j. here j && (not p && m && asking j)))
+            ≡ ((getD (s .close) i false && not (not p && m && dropAt said i)) || any jetCount (λ j. here j && (not p && m && asking j)))
         step true m = never here (getD (s .close) i false)
         step false true =
-            closes-at said asked (s .close) (w .close) i b ∙ ap (λ (x : Bool). getD (s .close) i false || x) (asked-asks i)
+            closes-at said asked (closeLeft manifoldCount said (s .close)) (left-long said (s .close) ∙ w .close) i b
+            ∙ ap₂ (λ (x y : Bool). x || y) (left-at said (s .close) (w .close) i b) (asked-asks i)
         step false false = never here (getD (s .close) i false)
 
     -- ---- all of them are there still
@@ -214,5 +227,5 @@ module _ (said : StringSaid) (next : Next) (s : PlainString) (w : Whole s) where
             s))) .close)
             ≡ manifoldCount
         close-long true m = w .close
-        close-long false true = closes-long said asked (s .close) ∙ w .close
+        close-long false true = closes-long said asked (closeLeft manifoldCount said (s .close)) ∙ left-long said (s .close) ∙ w .close
         close-long false false = w .close

@@ -46,9 +46,10 @@ pastJet = record {
   lost = false;
 }
 
--- what a record says of the jet, in the rules' form: with the cycle number that it leads to and its string's path bit
-abbrev pub recordOf : ℕ → Bool → JetSaid → JetRecord
-recordOf n path x = record {
+-- what a record says of the jet, in the rules' form: with the cycle number that it leads to, its string's path bit and its manifold's drop
+-- bit
+abbrev pub recordOf : ℕ → Bool → Bool → JetSaid → JetRecord
+recordOf n path drop x = record {
   n = n;
   path = path;
   commanded = x .commanded;
@@ -57,6 +58,7 @@ recordOf n path x = record {
   valve = x .valve;
   inhibit = x .inhibit;
   reenable = x .reenable;
+  drop = drop;
   fuel = x .fuel;
   oxidizer = x .oxidizer;
 }

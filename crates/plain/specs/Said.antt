@@ -1,10 +1,10 @@
--- What a record says of each jet of each string, its words opened. Assumes nothing.
+-- What a record says of each jet and each manifold of each string, its words opened. Assumes nothing.
 use mathlib.Core.Bool.{Bool, false}
 use mathlib.Core.List.{List, []}
 use Prim.Native.Nat.{ℕ, _+_, _*_}
 use lib.ListN.{getD}
 use Rattle.bits.specs.Bit.{bit}
-use Rattle.cycle.specs.Size.{stringCount, jetCount}
+use Rattle.cycle.specs.Size.{stringCount, jetCount, manifoldCount}
 use Rattle.cycle.specs.Each.{table}
 use Rattle.cycle.specs.Records.{Record, minor, major}
 use Rattle.cycle.specs.Hall.{sampleOf, noTemperatures, noRequests}
@@ -38,15 +38,19 @@ nothingSaid = record
     { commanded = false; pressure = false; driver = false; valve = false; inhibit = false; reenable = false; fuel = 0; oxidizer = 0 }
 
 abbrev pub silent : StringSaid
-silent = record { path = false; jets = [] }
+silent = record { path = false; drops = []; jets = [] }
 
 abbrev pub pastString : PlainString
 pastString = record { jets = []; close = [] }
 
+-- of the manifolds: bit i of the drop byte asks to drop manifold i's close bit
+unfoldable pub dropsSaid : Requests → List Bool
+dropsSaid q = table manifoldCount (λ i. bit i (q .drop))
+
 -- of a string with these jets
 unfoldable pub stringSaid : Bool → Sample → Requests → Temperatures → List Jet → StringSaid
 stringSaid path x q t jets =
-    record { path = path; jets = table jetCount (λ j. jetSaid x q t (placeOf ((getD jets j pastJet) .place)) j) }
+    record { path = path; drops = dropsSaid q; jets = table jetCount (λ j. jetSaid x q t (placeOf ((getD jets j pastJet) .place)) j) }
 
 -- of every string; "bit s set: the data path of string s has failed"
 unfoldable pub opened : Minor → List Temperatures → List Requests → List PlainString → List StringSaid

@@ -1,5 +1,5 @@
 -- One string of the plain engine: the rules of one jet (cycle's Jets), for each of its jets. Assumes nothing.
-use mathlib.Core.Bool.{Bool, false, cond, _&&_, _||_}
+use mathlib.Core.Bool.{Bool, false, not, cond, _&&_, _||_}
 use mathlib.Core.List.{List}
 use Prim.Native.Nat.{ℕ}
 use lib.Dec.{eqb}
@@ -23,9 +23,13 @@ jetAt l j = getD l j pastJet
 abbrev pub saidAt : StringSaid → ℕ → JetSaid
 saidAt said j = getD (said .jets) j nothingSaid
 
--- is jet j bad by what is said of it: that depends neither on the cycle number nor on the path
+-- is manifold i's close bit to be dropped
+abbrev pub dropAt : StringSaid → ℕ → Bool
+dropAt said i = getD (said .drops) i false
+
+-- is jet j bad by what is said of it: that depends neither on the cycle number nor on the path nor on a drop
 abbrev pub badAt : StringSaid → ℕ → Bool
-badAt said j = jets.isBad (recordOf 0 false (saidAt said j))
+badAt said j = jets.isBad (recordOf 0 false false (saidAt said j))
 
 -- the lowest n jets by a rule that knows the jet's number
 unfoldable pub eachOf : ℕ → (ℕ → Jet → Jet) → List Jet → List Jet
@@ -48,18 +52,25 @@ minorRule said gap missed j x = by (minorRules gap missed (saidAt said j)) x
 abbrev pub minorSteps : StringSaid → Bool → Bool → PlainString → PlainString
 minorSteps said gap missed s = eachJet (minorRule said gap missed) s
 
--- 5. Requests
+-- 5. Requests that name jets
 abbrev pub requestRule : StringSaid → ℕ → Jet → Jet
 requestRule said j x = by (jets.requested ((saidAt said j) .inhibit) ((saidAt said j) .reenable)) x
 
 abbrev pub requested : StringSaid → PlainString → PlainString
 requested said s = eachJet (requestRule said) s
 
+-- 5. 02, order 6: "bit i asks to drop manifold i's close bit"; the lowest n manifolds
+unfoldable pub closeLeft : ℕ → StringSaid → List Bool → List Bool
+closeLeft n said close = each n (λ i b. b && not (dropAt said i)) false close
+
+abbrev pub dropped : StringSaid → PlainString → PlainString
+dropped said s = record { jets = s .jets; close = closeLeft manifoldCount said (s .close) }
+
 -- 6. does one of the lowest n jets, of those on manifold i, ask for its close bit
 unfoldable pub someAsks : ℕ → StringSaid → List Jet → ℕ → Bool
 someAsks n said l i = any n (λ j. eqb (placeOf ((jetAt l j) .place)) i && jets.asks (badAt said j) (stateOf (jetAt l j)))
 
--- the lowest n manifolds get their close bits, "which stays"
+-- the lowest n manifolds get their close bits, which stay until they are dropped
 unfoldable pub closes : ℕ → StringSaid → List Jet → List Bool → List Bool
 closes n said l close = each n (λ i b. b || someAsks jetCount said l i) false close
 
@@ -82,7 +93,7 @@ kept s = eachJet keptRule s
 
 -- "In a major cycle also": 5 to 8
 abbrev pub majorSteps : StringSaid → PlainString → PlainString
-majorSteps said s = kept (onFailure said (rechecked said (requested said s)))
+majorSteps said s = kept (onFailure said (rechecked said (dropped said (requested said s))))
 
 -- the steps of a taken record, for every jet, mapped or not
 abbrev pub steps : StringSaid → Next → Bool → PlainString → PlainString

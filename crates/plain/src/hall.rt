@@ -102,6 +102,7 @@ impl Plain {
                 let none = Requests {
                     inhibit: 0,
                     reenable: 0,
+                    drop: 0,
                 };
                 let words = [0u16; TEMPERATURES];
                 let zero = Temperatures { words: words };

@@ -297,7 +297,7 @@ impl JetSaid {
     // "A jet is bad if it is not commanded and one of two holds: its driver is on, or it leaks. A commanded jet is never bad." (The rule
     // asks neither for the cycle number nor for the path.)
     pub(crate) fn is_bad(self) -> bool
-        ensures { λ r. ⌜ r ≡ isBad (recordOf 0 false self) ⌝ }
+        ensures { λ r. ⌜ r ≡ isBad (recordOf 0 false false self) ⌝ }
     {
         !self.commanded & (self.driver | (cold(self.fuel) | cold(self.oxidizer)))
     }

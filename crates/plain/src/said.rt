@@ -1,12 +1,13 @@
-// What a record says of each jet, as yes and no values: its words are opened here, once, and nowhere else.
+// What a record says of each jet and each manifold, as yes and no values: its words are opened here, once, and nowhere else.
 ghost use mathlib.Core.Path.{_≡_};
 ghost use Prim.Native.Nat.{_<_};
 ghost use Rattle.cycle.specs.Size.{jetCount};
-ghost use Rattle.plain.specs.Said.{nothingSaid, jetSaid, stringSaid, opened};
+ghost use Rattle.plain.specs.Said.{nothingSaid, jetSaid, dropsSaid, stringSaid, opened};
 use crate::jet::Jet;
 use crate::string::PlainString;
 use bits::has;
 use cycle::size::JETS;
+use cycle::size::MANIFOLDS;
 use cycle::size::STRINGS;
 use cycle::values::Minor;
 use cycle::values::Requests;
@@ -25,9 +26,10 @@ pub struct JetSaid {
     pub oxidizer: u16,
 }
 
-// Of a string: whether its data path has failed, and of its jets.
+// Of a string: whether its data path has failed, whether each manifold's close bit is to be dropped, and of its jets.
 pub struct StringSaid {
     pub path: bool,
+    pub drops: [bool; MANIFOLDS],
     pub jets: [JetSaid; JETS],
 }
 
@@ -68,6 +70,20 @@ fn jet_said(x: Sample, q: Requests, t: Temperatures, i: usize, j: usize) -> JetS
     }
 }
 
+// Of the manifolds: bit i of the drop byte asks to drop manifold i's close bit.
+fn drops_said(q: Requests) -> [bool; MANIFOLDS]
+    ensures { λ r. ⌜ r ≡ dropsSaid q ⌝ }
+{
+    let drop = q.drop as u32;
+    let mut drops = [false; MANIFOLDS];
+    let mut i: usize = 0;
+    while i < MANIFOLDS {
+        drops[i] = has(drop, i);
+        i += 1;
+    }
+    drops
+}
+
 // Of a string with these jets.
 fn string_said(path: bool, x: Sample, q: Requests, t: Temperatures, jets: [Jet; JETS]) -> StringSaid
     ensures { λ r. ⌜ r ≡ stringSaid path x q t jets ⌝ }
@@ -83,6 +99,7 @@ fn string_said(path: bool, x: Sample, q: Requests, t: Temperatures, jets: [Jet; 
     }
     StringSaid {
         path: path,
+        drops: drops_said(q),
         jets: said,
     }
 }
@@ -98,8 +115,10 @@ pub(crate) fn opened(
 {
     let nothing = JetSaid::nothing();
     let none = [nothing; JETS];
+    let no_drops = [false; MANIFOLDS];
     let silent = StringSaid {
         path: false,
+        drops: no_drops,
         jets: none,
     };
     let path = r.path as u32;

@@ -3,7 +3,7 @@ ghost use mathlib.Core.Path.{_≡_};
 ghost use Prim.Native.Nat.{_<_};
 ghost use Rattle.cycle.specs.Size.{jetCount};
 ghost use Rattle.plain.specs.Map.{freshString};
-ghost use Rattle.plain.specs.String.{pathLost, minorSteps, requested, someAsks, rechecked, onFailure, kept, onlyMapped};
+ghost use Rattle.plain.specs.String.{pathLost, minorSteps, requested, dropped, someAsks, rechecked, onFailure, kept, onlyMapped};
 ghost use Rattle.plain.specs.String.{majorSteps, steps, cycle, stringBothWays};
 use crate::jet::Jet;
 use crate::jet::Place;
@@ -69,7 +69,7 @@ impl PlainString {
         self
     }
 
-    // 5. Requests.
+    // 5. Requests that name jets.
     fn requested(mut self, said: StringSaid) -> PlainString
         ensures { λ r. ⌜ r ≡ requested said self ⌝ }
     {
@@ -82,6 +82,20 @@ impl PlainString {
             j += 1;
         }
         self.jets = jets;
+        self
+    }
+
+    // 5. Requests to drop a manifold's close bit; step 6 may set it again.
+    fn dropped(mut self, said: StringSaid) -> PlainString
+        ensures { λ r. ⌜ r ≡ dropped said self ⌝ }
+    {
+        let mut close = self.close;
+        let mut i: usize = 0;
+        while i < MANIFOLDS {
+            close[i] = close[i] & !said.drops[i];
+            i += 1;
+        }
+        self.close = close;
         self
     }
 
@@ -102,7 +116,7 @@ impl PlainString {
         found
     }
 
-    // "Each manifold with a jet in the recheck word that is bad and not re-enabled gets its close bit, which stays."
+    // "Each manifold with a jet in the recheck word that is bad and not re-enabled gets its close bit": it stays until it is dropped.
     fn rechecked(mut self, said: StringSaid) -> PlainString
         ensures { λ r. ⌜ r ≡ rechecked said self ⌝ }
     {
@@ -169,7 +183,8 @@ impl PlainString {
         ensures { λ r. ⌜ r ≡ majorSteps said self ⌝ }
     {
         let requested = self.requested(said);
-        let rechecked = requested.rechecked(said);
+        let dropped = requested.dropped(said);
+        let rechecked = dropped.rechecked(said);
         let failed = rechecked.on_failure(said);
         failed.kept()
     }

@@ -4,6 +4,7 @@
 use mathlib.Core.Path.{_≡_, refl, sym, ap, _∙_}
 use mathlib.Core.Bool.{Bool, true, false, _&&_}
 use mathlib.Core.List.{List, [], _∷_}
+use mathlib.Core.Logic.{inr}
 use Prim.Native.Nat.{ℕ, zero, suc, _+_, _*_, _<_, _^_}
 use native.Mathlib.Omega.{arith}
 use native.Mathlib.Bridge.{le-by-compare, IsLe}
@@ -15,7 +16,7 @@ use Rattle.cycle.specs.Map.{FitMap}
 use Rattle.feed.specs.Size.{reportLength}
 use Rattle.feed.specs.Call.{Result}
 use Rattle.feed.specs.Calls.{answerOf, takenRecords}
-use Rattle.feed.specs.CloseShown.{Shows, NeverShown, Earliest, ThirdEver}
+use Rattle.feed.specs.CloseShown.{Shows, NotShownSince, Earliest, ThirdSince}
 use Rattle.feed.proofs.Reports.CloseFirst.{close-shown, close-never, close-first}
 use Rattle.promises.specs.NightRecords.{nightMap}
 use Rattle.promises.specs.Instance.{majorBytes}
@@ -49,16 +50,16 @@ night-fits (suc (suc (suc (suc s)))) i l m = absurd (omega arith)
 abbrev writtenIn : Result → Bool
 writtenIn r = writesReport (r .outcome .answer)
 
-abbrev closeIn : Result → Bool
+abbrev pub closeIn : Result → Bool
 closeIn r = bit 0 (getD (take reportLength (r .outbox)) (7 + 5 * 0 + 4) 0)
 
 abbrev Unseen : List Exchanged → Type 0
 Unseen [] = Unit {0}
 Unseen (x ∷ xs) = ((writtenIn (x .result) && closeIn (x .result)) ≡ false) × Unseen xs
 
-never-by : (xs : List Exchanged) → Given xs → Unseen xs → NeverShown nightMap 0 0 (madeOf xs)
-never-by [] g u = tt
-never-by (x ∷ xs) g u = (λ a s. by a s, never-by xs (g .1) (u .1))
+unseen-before : (xs : List Exchanged) → Given xs → Unseen xs → NotShownSince nightMap 0 0 (madeOf xs)
+unseen-before [] g u = tt
+unseen-before (x ∷ xs) g u = (λ a s. by a s, inr (unseen-before xs (g .1) (u .1)))
   where
     by : writesReport (answerOf nightMap (handing (x .piece)) (madeOf xs)) ≡ true → Shows nightMap 0 0 (handing (x .piece)) (madeOf xs) → ⊥
     by a s =
@@ -73,7 +74,7 @@ feed-close =
     record {
       answer = ap (λ (r : Result). r .outcome .answer) (g .0);
       shown = ap closeIn (g .0);
-      never = never-by feedTo50 (g .1) (refl, (refl, (refl, (refl, tt))));
+      notBefore = unseen-before feedTo50 (g .1) (refl, (refl, (refl, (refl, tt))));
     }
 
 pub longer-close : Appears longerTo50
@@ -83,7 +84,7 @@ longer-close =
     record {
       answer = ap (λ (r : Result). r .outcome .answer) (g .0);
       shown = ap closeIn (g .0);
-      never = never-by longerTo50 (g .1) (refl, (refl, (refl, (refl, (refl, (refl, tt))))));
+      notBefore = unseen-before longerTo50 (g .1) (refl, (refl, (refl, (refl, (refl, (refl, tt))))));
     }
 
 -- ---- the theorems' instances
@@ -96,7 +97,7 @@ earliest-by : (xs : List Exchanged) → Appears xs
     → Earliest 0x0000000F 0 0 (takenRecords nightMap (handing (majorBytes 75) ∷ madeOf xs))
 earliest-by xs x =
     close-first nightMap night-fits night-accepted 0 0 first first (handing (majorBytes 75)) (madeOf xs) (x .answer) .0
-    (x .shown, x .never)
+    (x .shown, inr (x .notBefore))
 
 pub feed-earliest : Earliest 0x0000000F 0 0 (takenRecords nightMap (handing (majorBytes 75) ∷ madeOf feedTo50))
 feed-earliest = earliest-by feedTo50 feed-close
@@ -105,11 +106,11 @@ pub longer-earliest : Earliest 0x0000000F 0 0 (takenRecords nightMap (handing (m
 longer-earliest = earliest-by longerTo50 longer-close
 
 -- one of the manifold's jets has been bad so up to record 75
-pub third-by-75 : ThirdEver 0x0000000F 0 0 (takenRecords nightMap (handing (majorBytes 75) ∷ madeOf feedTo50))
+pub third-by-75 : ThirdSince 0x0000000F 0 0 (takenRecords nightMap (handing (majorBytes 75) ∷ madeOf feedTo50))
 third-by-75 =
     close-shown nightMap night-fits night-accepted 0 0 first first (handing (majorBytes 75)) (madeOf feedTo50)
     (ap writesReport (feed-close .answer)) .0 (feed-close .shown)
 
 -- and none up to record 50
-pub none-by-50 : ThirdEver 0x0000000F 0 0 (takenRecords nightMap (madeOf feedTo50)) → ⊥
-none-by-50 = close-never nightMap night-fits night-accepted 0 0 first first (madeOf feedTo50) .0 (feed-close .never)
+pub none-by-50 : ThirdSince 0x0000000F 0 0 (takenRecords nightMap (madeOf feedTo50)) → ⊥
+none-by-50 = close-never nightMap night-fits night-accepted 0 0 first first (madeOf feedTo50) .0 (feed-close .notBefore)

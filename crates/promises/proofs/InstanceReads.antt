@@ -7,8 +7,8 @@ use native.Mathlib.Bridge.{le-by-compare, IsLe}
 use lib.ListN.{length, take, drop}
 use Rattle.bits.specs.Bit.{every}
 use Rattle.feed.specs.Size.{mostHeld}
-use Rattle.feed.specs.Format.{rowOf, markOf, total, sumOf, reservedZero, quantitiesRight, goodMinor, goodMajor}
-use Rattle.feed.specs.Format.{markedLook, look}
+use Rattle.feed.specs.Format.{rowOf, markOf, total, sumOf, reservedZero, dropsZero, quantitiesRight}
+use Rattle.feed.specs.Format.{goodMinor, goodMajor, markedLook, look}
 use Rattle.feed.specs.Reader.{settle, reads}
 use Rattle.feed.specs.Step.{isWhole}
 use Rattle.feed.specs.declared.format.Look.the-variants.{Waits}
@@ -18,8 +18,8 @@ use Rattle.promises.specs.Instance.{warmWords, majorBytes, minorBytes}
 
 pub records-whole : (isWhole (majorBytes 25) ≡ true) × (isWhole (majorBytes 50) ≡ true) × (isWhole (majorBytes 75) ≡ true)
     × (isWhole (minorBytes 10) ≡ true)
-unfolding every rowOf markOf total sumOf reservedZero quantitiesRight goodMinor goodMajor markedLook look isWhole warmWords majorBytes
-    minorBytes
+unfolding every rowOf markOf total sumOf reservedZero dropsZero quantitiesRight goodMinor goodMajor markedLook look isWhole warmWords
+    majorBytes minorBytes
 records-whole = (refl, refl, refl, refl)
 
 pub parts-wait : (look [] ≡ Waits) × (look (take 85 (majorBytes 50)) ≡ Waits) × (look (take 385 (majorBytes 25)) ≡ Waits)
@@ -39,34 +39,34 @@ pub record Stopping (held piece : List ℕ) (used : ℕ) (left rest : List ℕ) 
 pub reads-nothing : Stopping [] [] 0 [] [] × Stopping (take 85 (majorBytes 50)) [] 0 (take 85 (majorBytes 50)) []
 unfolding IsLe rowOf markOf markedLook look settle reads warmWords majorBytes
 reads-nothing = (
-  record { short = le-by-compare 0 614 tt; count = refl; stop = refl },
-  record { short = le-by-compare 85 614 tt; count = refl; stop = refl },
+  record { short = le-by-compare 0 618 tt; count = refl; stop = refl },
+  record { short = le-by-compare 85 618 tt; count = refl; stop = refl },
 )
 
 -- record 25 and something behind it
-pub reads-25 : Stopping [] (majorBytes 25) 615 (majorBytes 25) []
-    × Stopping [] (majorBytes 25 ++ majorBytes 50) 615 (majorBytes 25) (majorBytes 50)
-    × Stopping [] (majorBytes 25 ++ take 85 (majorBytes 50)) 615 (majorBytes 25) (take 85 (majorBytes 50))
-    × Stopping [] (majorBytes 25 ++ take 385 (majorBytes 25)) 615 (majorBytes 25) (take 385 (majorBytes 25))
-unfolding IsLe every rowOf markOf total sumOf reservedZero quantitiesRight goodMajor markedLook look settle reads warmWords
+pub reads-25 : Stopping [] (majorBytes 25) 619 (majorBytes 25) []
+    × Stopping [] (majorBytes 25 ++ majorBytes 50) 619 (majorBytes 25) (majorBytes 50)
+    × Stopping [] (majorBytes 25 ++ take 85 (majorBytes 50)) 619 (majorBytes 25) (take 85 (majorBytes 50))
+    × Stopping [] (majorBytes 25 ++ take 385 (majorBytes 25)) 619 (majorBytes 25) (take 385 (majorBytes 25))
+unfolding IsLe every rowOf markOf total sumOf reservedZero dropsZero quantitiesRight goodMajor markedLook look settle reads warmWords
     majorBytes
 reads-25 = (
-  record { short = le-by-compare 0 614 tt; count = refl; stop = refl },
-  record { short = le-by-compare 0 614 tt; count = refl; stop = refl },
-  record { short = le-by-compare 0 614 tt; count = refl; stop = refl },
-  record { short = le-by-compare 0 614 tt; count = refl; stop = refl },
+  record { short = le-by-compare 0 618 tt; count = refl; stop = refl },
+  record { short = le-by-compare 0 618 tt; count = refl; stop = refl },
+  record { short = le-by-compare 0 618 tt; count = refl; stop = refl },
+  record { short = le-by-compare 0 618 tt; count = refl; stop = refl },
 )
 
 -- records 50 and 75
-pub reads-later : Stopping [] (majorBytes 50) 615 (majorBytes 50) []
-    × Stopping [] (majorBytes 50 ++ take 15 (minorBytes 10)) 615 (majorBytes 50) (take 15 (minorBytes 10))
-    × Stopping [] (majorBytes 75) 615 (majorBytes 75) []
-unfolding IsLe every rowOf markOf total sumOf reservedZero quantitiesRight goodMajor markedLook look settle reads warmWords
+pub reads-later : Stopping [] (majorBytes 50) 619 (majorBytes 50) []
+    × Stopping [] (majorBytes 50 ++ take 15 (minorBytes 10)) 619 (majorBytes 50) (take 15 (minorBytes 10))
+    × Stopping [] (majorBytes 75) 619 (majorBytes 75) []
+unfolding IsLe every rowOf markOf total sumOf reservedZero dropsZero quantitiesRight goodMajor markedLook look settle reads warmWords
     majorBytes minorBytes
 reads-later = (
-  record { short = le-by-compare 0 614 tt; count = refl; stop = refl },
-  record { short = le-by-compare 0 614 tt; count = refl; stop = refl },
-  record { short = le-by-compare 0 614 tt; count = refl; stop = refl },
+  record { short = le-by-compare 0 618 tt; count = refl; stop = refl },
+  record { short = le-by-compare 0 618 tt; count = refl; stop = refl },
+  record { short = le-by-compare 0 618 tt; count = refl; stop = refl },
 )
 
 -- the first part of a record
@@ -75,20 +75,20 @@ pub reads-first : Stopping [] (take 85 (majorBytes 50)) 85 (take 85 (majorBytes 
     × Stopping [] (take 15 (minorBytes 10)) 15 (take 15 (minorBytes 10)) []
 unfolding IsLe rowOf markOf markedLook look settle reads warmWords majorBytes minorBytes
 reads-first = (
-  record { short = le-by-compare 0 614 tt; count = refl; stop = refl },
-  record { short = le-by-compare 0 614 tt; count = refl; stop = refl },
-  record { short = le-by-compare 0 614 tt; count = refl; stop = refl },
+  record { short = le-by-compare 0 618 tt; count = refl; stop = refl },
+  record { short = le-by-compare 0 618 tt; count = refl; stop = refl },
+  record { short = le-by-compare 0 618 tt; count = refl; stop = refl },
 )
 
 -- the rest of a record and something behind it
-pub reads-rest : Stopping (take 85 (majorBytes 50)) (drop 85 (majorBytes 50) ++ majorBytes 75) 530 (majorBytes 50) (majorBytes 75)
-    × Stopping (take 385 (majorBytes 25)) (drop 385 (majorBytes 25) ++ (majorBytes 50 ++ take 15 (minorBytes 10))) 230 (majorBytes 25)
+pub reads-rest : Stopping (take 85 (majorBytes 50)) (drop 85 (majorBytes 50) ++ majorBytes 75) 534 (majorBytes 50) (majorBytes 75)
+    × Stopping (take 385 (majorBytes 25)) (drop 385 (majorBytes 25) ++ (majorBytes 50 ++ take 15 (minorBytes 10))) 234 (majorBytes 25)
     (majorBytes 50 ++ take 15 (minorBytes 10))
     × Stopping (take 15 (minorBytes 10)) (drop 15 (minorBytes 10) ++ majorBytes 75) 44 (minorBytes 10) (majorBytes 75)
-unfolding IsLe every rowOf markOf total sumOf reservedZero quantitiesRight goodMinor goodMajor markedLook look settle reads warmWords
-    majorBytes minorBytes
+unfolding IsLe every rowOf markOf total sumOf reservedZero dropsZero quantitiesRight goodMinor goodMajor markedLook look settle reads
+    warmWords majorBytes minorBytes
 reads-rest = (
-  record { short = le-by-compare 85 614 tt; count = refl; stop = refl },
-  record { short = le-by-compare 385 614 tt; count = refl; stop = refl },
-  record { short = le-by-compare 15 614 tt; count = refl; stop = refl },
+  record { short = le-by-compare 85 618 tt; count = refl; stop = refl },
+  record { short = le-by-compare 385 618 tt; count = refl; stop = refl },
+  record { short = le-by-compare 15 618 tt; count = refl; stop = refl },
 )

@@ -13,12 +13,12 @@ use Rattle.cycle.specs.declared.values.Quantities.{Quantities}
 use Rattle.feed.specs.Bytes.{parts}
 use Rattle.feed.specs.Format.{total, sumOf}
 use Rattle.writer.specs.RecordBytes.{headBytes, sampleBytes, samplesBytes, commonBytes, beforeSum, summed, bytesOf}
-use Rattle.writer.specs.Write.{reservedZero, twoRight, quantitiesRight, checked, wrote, write}
+use Rattle.writer.specs.Write.{reservedZero, dropsZero, twoRight, quantitiesRight, checked, wrote, write}
 use Rattle.writer.specs.Fit.{FitSample, FitMinor, FitTemperatures, FitRequests, FitQuantities, FitRecord}
 use Rattle.writer.specs.Sent.{AllWritten, none, more}
 use Rattle.writer.specs.declared.answer.Writing.{Writing}
 use Rattle.writer.specs.declared.answer.Writing.the-variants.{Written, ReservedBit, QuantityAbove, OutboxShort}
-use Rattle.promises.specs.NightRecords.{sampleWith, quietSample, quietTemperatures, minorWith, majorWith, keeping}
+use Rattle.promises.specs.NightRecords.{sampleWith, quietSample, quietTemperatures, minorWith, majorWith, keeping, droppingWith}
 use Rattle.promises.specs.Nights.{fourTimes}
 
 -- ---- the first record of the nights, into an outbox of 61 bytes 07
@@ -43,23 +43,27 @@ fullValues = major (majorWith 25 quietSample quietTemperatures full)
 abbrev answer-of : Record → ℕ → Writing
 answer-of r room = (write r (replicate room 0)) .answer
 
-pub full-written : answer-of fullValues 615 ≡ Written
-unfolding write checked reservedZero every quantitiesRight twoRight
+pub full-written : answer-of fullValues 619 ≡ Written
+unfolding write checked reservedZero dropsZero every quantitiesRight twoRight
 full-written = refl
 
 -- ---- each refusal, and their order
 
-pub short-refused : answer-of fullValues 614 ≡ OutboxShort
-unfolding write checked reservedZero every quantitiesRight twoRight
+pub short-refused : answer-of fullValues 618 ≡ OutboxShort
+unfolding write checked reservedZero dropsZero every quantitiesRight twoRight
 short-refused = refl
 
-pub quantity-refused : answer-of (major (majorWith 25 quietSample quietTemperatures (keeping 1000 1001 ∷ []))) 614 ≡ QuantityAbove
-unfolding write checked reservedZero every quantitiesRight twoRight
+pub quantity-refused : answer-of (major (majorWith 25 quietSample quietTemperatures (keeping 1000 1001 ∷ []))) 618 ≡ QuantityAbove
+unfolding write checked reservedZero dropsZero every quantitiesRight twoRight
 quantity-refused = refl
 
-pub reserved-refused : answer-of (major (majorWith 25 (sampleWith 0 0 0x10) quietTemperatures (keeping 1000 1001 ∷ []))) 614 ≡ ReservedBit
-unfolding write checked reservedZero every quantitiesRight twoRight
+pub reserved-refused : answer-of (major (majorWith 25 (sampleWith 0 0 0x10) quietTemperatures (keeping 1000 1001 ∷ []))) 618 ≡ ReservedBit
+unfolding write checked reservedZero dropsZero every quantitiesRight twoRight
 reserved-refused = refl
+
+pub drop-refused : answer-of (major (droppingWith 25 0x10 (keeping 1000 1001 ∷ []))) 618 ≡ ReservedBit
+unfolding write checked reservedZero dropsZero every quantitiesRight twoRight
+drop-refused = refl
 
 -- ---- both sent: the premises of `sent-feed`
 
@@ -90,7 +94,7 @@ heat-fits = record { many = refl; word = λ k l. rw (getD-replicate {A = ℕ} 64
 full-fits : FitRecord fullValues
 full-fits =
     let q : FitQuantities (keeping 1000 1000) = record { fuel = omega arith; oxidizer = omega arith } in
-    let a : FitRequests noRequests = record { inhibit = omega arith; reenable = omega arith } in
+    let a : FitRequests noRequests = record { inhibit = omega arith; reenable = omega arith; drop = omega arith } in
     record {
       minor = night-fits 25 (omega arith);
       heated = refl;
@@ -107,4 +111,4 @@ full-fits =
 pub both-sent : AllWritten (firstValues ∷ fullValues ∷ [])
 both-sent =
     more (replicate 61 7) (night-fits 1 (omega arith)) (ap (λ x. x .answer) first-written)
-    (more (replicate 615 0) full-fits full-written none)
+    (more (replicate 619 0) full-fits full-written none)

@@ -2,7 +2,7 @@
 -- over an accepted map, about every state, or about every feed. The words of each statement are defined in specs/ of `feed` and `cycle`;
 -- each proof is a citation. Assumes nothing.
 use mathlib.Core.Path.{_≡_, sym, ap, subst}
-use mathlib.Core.Bool.{true, false, _&&_}
+use mathlib.Core.Bool.{Bool, true, false, _&&_}
 use mathlib.Core.List.{List, [], _∷_, _++_, append-nil}
 use mathlib.Core.Logic.{_↔_, inr}
 use Prim.Native.Nat.{ℕ, _+_, _*_, _<_, _≤_}
@@ -11,11 +11,13 @@ use lib.ListN.{length}
 use Rattle.bits.specs.Bit.{bit}
 use Rattle.cycle.specs.Size.{stringCount}
 use Rattle.cycle.specs.Answers.{isTaken, writesReport}
-use Rattle.cycle.specs.Jets.{run}
+use Rattle.cycle.specs.Jets.{JetRecord, withDrop, cycle, asksAt, run}
 use Rattle.cycle.specs.Map.{masksOf, inMask, FitMap, refused}
 use Rattle.cycle.specs.declared.answer.Answer.the-variants.{Taken, NothingSettled}
 use Rattle.cycle.specs.declared.map.Masks.{Masks}
+use Rattle.cycle.specs.declared.jet.JetState.{JetState}
 use Rattle.cycle.proofs.Overrides.{never-both}
+use Rattle.cycle.proofs.Drops as drops
 use Rattle.feed.specs.Bytes.{four}
 use Rattle.feed.specs.Good.{MajorRecord, WholeRecord}
 use Rattle.feed.specs.Heard.{jetHistory}
@@ -23,7 +25,7 @@ use Rattle.feed.specs.Settled.{recordIn}
 use Rattle.feed.specs.Call.{holds, holding, call}
 use Rattle.feed.specs.Calls.{Made, monitorAfter, answerOf, reportIn, takenRecords, Finished}
 use Rattle.feed.specs.SettledAt.{SettledAt, Alone}
-use Rattle.feed.specs.CloseShown.{Shows}
+use Rattle.feed.specs.CloseShown.{Shows, NoneTakesDrop}
 use Rattle.feed.specs.declared.call.Monitor.{Monitor}
 use Rattle.feed.proofs.Calls.NextRecord as next
 use Rattle.feed.proofs.Calls.NoLongWait as wait
@@ -51,8 +53,9 @@ module _ (masks : List Masks) (words : FitMap masks) (accepted : refused stringC
         && (run (jetHistory s i j (takenRecords masks (c ∷ cs)))) .over .reenable) ≡ false
     never-both-ways = never-both (jetHistory s i j (takenRecords masks (c ∷ cs)))
 
-  -- a close bit never goes: once in a report, it is in that of every later call d
+  -- a close bit goes only at a drop carried out: once in a report, it is in that of every later call d, unless a call up to d drops it
   pub close-stays : (s i : ℕ) → s < 4 → i < 4 → Shows masks s i c cs → (later : List Made) (d : Made)
+      → NoneTakesDrop masks s i (d ∷ later) (c ∷ cs)
       → writesReport (answerOf masks d (later ++ (c ∷ cs))) ≡ true → Shows masks s i d (later ++ (c ∷ cs))
   close-stays s i string manifold shown later d =
       close.close-stays masks words accepted s i string manifold c cs later d written shown
@@ -79,12 +82,19 @@ module _ (m : Monitor) (piece out : List ℕ) where
       → later ((call m piece out) .outcome .monitor) ≡ later (holding (m .hall) (holds ((call m piece out) .outcome .monitor)))
   refused-forgotten written untaken later = ap later (refused-keeps written untaken)
 
+-- ---- a drop
+
+-- a drop changes nothing but close bits: whatever a record says of it, each jet steps, and asks for its manifold's close bit, alike
+pub drop-leaves-jets : (drop : Bool) (old : ℕ) (r : JetRecord) (s : JetState)
+    → (cycle old (withDrop drop r) s ≡ cycle old r s) × (asksAt old (withDrop drop r) s ≡ asksAt old r s)
+drop-leaves-jets drop old r s = (drops.drop-leaves drop old r s, drops.drop-asks drop old r s)
+
 -- ---- no long wait
 
--- Called with a long enough outbox until a call settles nothing, a whole record that no other settled record overlaps is settled once 614
+-- Called with a long enough outbox until a call settles nothing, a whole record that no other settled record overlaps is settled once 618
 -- bytes from its own first byte on have come, or all of it if it is longer.
 pub no-long-wait : (masks : List Masks) (before r after : List ℕ) (cs : List Made) → Finished masks (before ++ (r ++ after)) cs
-    → WholeRecord r → 614 ≤ length (r ++ after) → Alone masks cs (length before) r → SettledAt masks cs (length before) r
+    → WholeRecord r → 618 ≤ length (r ++ after) → Alone masks cs (length before) r → SettledAt masks cs (length before) r
 no-long-wait = wait.no-long-wait
 
 -- so a major record, and with it a close order, waits for nothing behind its last byte

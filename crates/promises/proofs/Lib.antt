@@ -16,6 +16,7 @@ pub mod InstanceGiven
 pub mod InstanceFinished
 pub mod InstanceCut
 pub mod InstanceClose
+pub mod InstanceDrop
 pub mod InstanceWrites
 pub mod SmallRules
 pub mod Keeper

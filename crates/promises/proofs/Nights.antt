@@ -10,7 +10,8 @@ use Rattle.cycle.specs.Words.{pathLost, recovered, gapped, offFailure, manifold
 use Rattle.cycle.specs.Words.{requested, leakWord, badJets, closeBits, rechecked, onFailure, kept, majorSteps, majorCycle}
 use Rattle.cycle.specs.Banks.{weighed, weighedAll}
 use Rattle.cycle.specs.Hall.{freshHall, started, minorStrings, majorStrings, taken, bothWays, unlessBothWays, verdictOn, stepped}
-use Rattle.feed.specs.Format.{rowOf, markOf, total, sumOf, reservedZero, quantitiesRight, goodMinor, goodMajor, markedLook, look}
+use Rattle.feed.specs.Format.{rowOf, markOf, total, sumOf, reservedZero, dropsZero, quantitiesRight, goodMinor, goodMajor, markedLook}
+use Rattle.feed.specs.Format.{look}
 use Rattle.feed.specs.Reader.{settle, reads}
 use Rattle.feed.specs.Values.{samplesOf, minorOf, wordsAt, temperaturesOf, requestsOf, quantitiesOf, majorOf, valuesOf}
 use Rattle.feed.specs.Step.{isWhole, stepOf}
@@ -23,6 +24,7 @@ use Rattle.promises.specs.NightsOfLeaks.{temperatureNights, frozenNights
 use Rattle.promises.specs.NightsOfJets.{jetNights}
 use Rattle.promises.specs.NightsOfRequests.{requestNights}
 use Rattle.promises.specs.NightsOfBothWays.{bothWaysNights}
+use Rattle.promises.specs.NightsOfDrops.{repairNights, dropNights}
 use Rattle.promises.specs.NightsOfManifolds.{manifoldNights}
 use Rattle.promises.specs.NightsOfPaths.{pathNights}
 use Rattle.promises.specs.NightsOfLostValves.{lostValveNights}
@@ -33,9 +35,9 @@ computed : Unit {0}
 unfolding bit without meets withBit pack any every each table mapped overlap refused isMajor missedMajor following judgedAt judged pathLost
     recovered gapped offFailure manifold passed manifolds requested leakWord badJets closeBits rechecked onFailure kept minorSteps
     majorSteps minorCycle majorCycle weighed weighedAll freshHall started minorStrings majorStrings taken bothWays unlessBothWays verdictOn
-    stepped rowOf markOf total sumOf reservedZero quantitiesRight goodMinor goodMajor markedLook look settle reads samplesOf minorOf wordsAt
-    temperaturesOf requestsOf quantitiesOf majorOf valuesOf isWhole stepOf parts headOf stringBytes stringsBytes balanceOf lesserBytes
-    banksBytes reportOf startedOver called call outcomes beforeRefusals afterRefusals calls cycles warmWords
+    stepped rowOf markOf total sumOf reservedZero dropsZero quantitiesRight goodMinor goodMajor markedLook look settle reads samplesOf
+    minorOf wordsAt temperaturesOf requestsOf quantitiesOf majorOf valuesOf isWhole stepOf parts headOf stringBytes stringsBytes balanceOf
+    lesserBytes banksBytes reportOf startedOver called call outcomes beforeRefusals afterRefusals calls cycles warmWords
 computed = tt
 
 -- part by part, since what one law may compute is bounded
@@ -64,6 +66,14 @@ nights-hold-of-both-ways : EachHolds bothWaysNights
 unfolding computed bothWaysNights
 nights-hold-of-both-ways = (refl, (refl, (refl, (refl, tt))))
 
+nights-hold-of-repairs : EachHolds repairNights
+unfolding computed repairNights
+nights-hold-of-repairs = (refl, (refl, tt))
+
+nights-hold-of-drops : EachHolds dropNights
+unfolding computed dropNights
+nights-hold-of-drops = (refl, (refl, (refl, (refl, (refl, (refl, (refl, tt)))))))
+
 nights-hold-of-manifolds : EachHolds manifoldNights
 unfolding computed manifoldNights
 nights-hold-of-manifolds = (refl, (refl, (refl, (refl, (refl, (refl, tt))))))
@@ -90,4 +100,6 @@ nights-hold =
     (both-hold manifoldNights _ nights-hold-of-manifolds
     (both-hold pathNights _ nights-hold-of-paths
     (both-hold lostValveNights _ nights-hold-of-lost-valves
-    (both-hold frozenNights bothWaysNights nights-hold-frozen nights-hold-of-both-ways)))))))
+    (both-hold frozenNights _ nights-hold-frozen
+    (both-hold bothWaysNights _ nights-hold-of-both-ways
+    (both-hold repairNights dropNights nights-hold-of-repairs nights-hold-of-drops)))))))))

@@ -4,15 +4,15 @@
 -- say, and that no public function asks anything of its caller, is proved in `Contracts`; what people rely on beyond the demands in
 -- `Keeper`. The words of each statement are defined in specs/ of `feed` and `cycle`; each proof is a citation. Assumes nothing.
 use mathlib.Core.Path.{_≡_, refl, sym, _∙_}
-use mathlib.Core.Bool.{true, false, _&&_, _||_}
+use mathlib.Core.Bool.{Bool, true, false, _&&_, _||_}
 use mathlib.Core.List.{List, [], _∷_, _++_}
-use mathlib.Core.Logic.{_↔_}
+use mathlib.Core.Logic.{_⊎_, _↔_}
 use Prim.Native.Nat.{ℕ, _+_, _*_, _/_, _%_, _<_, _≤_}
 use lib.ListN.{length, getD, take}
 use Rattle.bits.specs.Bit.{bit, any}
 use Rattle.cycle.specs.Size.{stringCount, manifoldCount}
 use Rattle.cycle.specs.Answers.{numberOf, isTaken, writesReport}
-use Rattle.cycle.specs.Jets.{JetRecord, isBad, reached, run, cycle, asksAt}
+use Rattle.cycle.specs.Jets.{JetRecord, isBad, dropsAt, reached, run, cycle, asksAt}
 use Rattle.cycle.specs.Words.{manifolds}
 use Rattle.cycle.specs.Records.{Record, minor}
 use Rattle.cycle.specs.Hall.{sampleOf, stringOf, stepped}
@@ -36,7 +36,7 @@ use Rattle.cycle.proofs.Turns as turns
 use Rattle.cycle.proofs.TurnsTaken as turning
 use Rattle.cycle.proofs.UnmappedAlike as alike
 use Rattle.feed.specs.Bytes.{four}
-use Rattle.feed.specs.Heard.{Heard, Each, jetHeard, BadSaid}
+use Rattle.feed.specs.Heard.{Heard, Each, jetHeard, BadSaid, DropCarriedOut}
 use Rattle.feed.specs.Settled.{recordIn}
 use Rattle.feed.specs.Answered.{BothWaysSaid, Condition, Leaves, Read, Starts}
 use Rattle.feed.specs.Call.{holds, Result, startedOver, call, runs}
@@ -44,7 +44,7 @@ use Rattle.feed.specs.Masks.{masksOfBytes, startedFrom}
 use Rattle.feed.specs.Calls.{Made, monitorAfter, answerOf, reportIn, takenReports, takenRecords, Hands, Finished, joined, FinishedPieces}
 use Rattle.feed.specs.PutIn.{PutIn}
 use Rattle.feed.specs.Tells.{Tells}
-use Rattle.feed.specs.CloseShown.{Shows, NeverShown, ThirdEver, Earliest}
+use Rattle.feed.specs.CloseShown.{ThirdSince, Earliest, Shows, TakesDrop, NotShownSince}
 use Rattle.feed.specs.Batch.{Continues}
 use Rattle.feed.specs.declared.call.Monitor.{Monitor}
 use Rattle.feed.proofs.Answers.Answered.{answers-exactly}
@@ -59,6 +59,7 @@ use Rattle.feed.proofs.Cutting.Finishing as finishing
 use Rattle.feed.proofs.Cutting.Pieces as inPieces
 use Rattle.feed.proofs.Reports.CloseFirst as close
 use Rattle.feed.proofs.Reports.BadTaken as bad
+use Rattle.feed.proofs.Reports.KindsTaken as kinds
 use Rattle.feed.proofs.Reports.OneWay as oneWay
 use Rattle.feed.proofs.Calls.Batches.{batch-continues}
 
@@ -93,8 +94,8 @@ one-answer m piece out a b x y = sym (answers m piece out a .1 x) ∙ answers m 
 pub leaves : (m : Monitor) (piece out : List ℕ) → Leaves ((call m piece out) .outcome .answer) m piece out (call m piece out)
 leaves = call-leaves
 
--- "A state handed in that claims more than 614 held bytes is read as holding none"
-pub holds-exactly : (m : Monitor) → (614 < m .count → holds m ≡ []) × (m .count ≤ 614 → holds m ≡ take (m .count) (m .held))
+-- 02, order 6: "a state handed in is read as holding none only if it claims more than 618"
+pub holds-exactly : (m : Monitor) → (618 < m .count → holds m ≡ []) × (m .count ≤ 618 → holds m ≡ take (m .count) (m .held))
 holds-exactly = starting.holds-exactly
 
 -- on every answer but 5, what the reader drops, settles and holds, and where it stops: whole records only, and no whole one is dropped
@@ -175,24 +176,40 @@ module _ (masks : List Masks) (words : FitMap masks) (accepted : refused stringC
       → Each (λ t. ((jetHeard s i j t) .inhibit && (jetHeard s i j t) .reenable) ≡ false) (takenRecords masks cs)
   jet-one-way = oneWay.jet-one-way masks words accepted
 
-  -- Demand 3, close, for manifold i of string s. 02, order 4: "A record so refused is not taken, so for demand 3 that major cycle is
-  -- missed, unless a later record for the same cycle is taken.": `both-ways-missed`, below
+  -- 02, order 6: "bit i asks to drop manifold i's close bit", "lost under a path fault as other requests are". In each record taken, what a
+  -- jet of the manifold hears of a drop is what the record's bytes say: it is major, its string's path bit clear, its drop bit set.
+  pub drop-said : (s i j : ℕ) (cs : List Made)
+      → Each (λ t. (dropsAt (jetHeard s i j t) ≡ true) ↔ DropCarriedOut s i (t .bytes)) (takenRecords masks cs)
+  drop-said = kinds.drop-taken masks words accepted
+
+  -- Demand 3, close, for manifold i of string s. 02, order 6: "Demand 3 now speaks of the first close since fresh, or at or after the last
+  -- drop carried out, that cycle included; the three bad major cycles may reach back before the drop." 02, order 4: "A record so refused is
+  -- not taken, so for demand 3 that major cycle is missed, unless a later record for the same cycle is taken.": `both-ways-missed`, below
   module _ (s i : ℕ) (string : s < 4) (manifold : i < 4) where
-    -- the close command is in a report if and only if the newest record taken or an earlier one is such a third major cycle
+    -- the close command is in a report if and only if some record taken, since fresh or at or after the last drop carried out, is such a
+    -- third major cycle
     pub close-shown : (c : Made) (cs : List Made) → writesReport (answerOf masks c cs) ≡ true
-        → Shows masks s i c cs ↔ ThirdEver (getD (masksOf masks s) i 0) s i (takenRecords masks (c ∷ cs))
+        → Shows masks s i c cs ↔ ThirdSince (getD (masksOf masks s) i 0) s i (takenRecords masks (c ∷ cs))
     close-shown = close.close-shown masks words accepted s i string manifold
 
     -- "a manifold's close command first appears in the earliest major cycle in which one of its jets has been bad at that and the two
-    -- major cycles before, .."
+    -- major cycles before, ..": it is in the report of the call c, which drops or follows calls that have not shown it since the last drop
     pub close-first : (c : Made) (cs : List Made) → answerOf masks c cs ≡ Taken
-        → (Shows masks s i c cs × NeverShown masks s i cs) ↔ Earliest (getD (masksOf masks s) i 0) s i (takenRecords masks (c ∷ cs))
+        → (Shows masks s i c cs × (TakesDrop masks s i c cs ⊎ NotShownSince masks s i cs))
+        ↔ Earliest (getD (masksOf masks s) i 0) s i (takenRecords masks (c ∷ cs))
     close-first = close.close-first masks words accepted s i string manifold
 
-    -- "With no such cycle it never appears."
+    -- "With no such cycle", since fresh or at or after the last drop, it does not appear
     pub close-never : (cs : List Made)
-        → NeverShown masks s i cs ↔ (ThirdEver (getD (masksOf masks s) i 0) s i (takenRecords masks cs) → ⊥)
+        → NotShownSince masks s i cs ↔ (ThirdSince (getD (masksOf masks s) i 0) s i (takenRecords masks cs) → ⊥)
     close-never = close.close-never masks words accepted s i string manifold
+
+    -- "Dropping happens in step 5, so step 6 of the same cycle may set the bit again": where a drop is carried out, the close command is in
+    -- the report if and only if that very record is such a third (which
+    -- then is the earliest)
+    pub close-after-drop : (c : Made) (cs : List Made) → TakesDrop masks s i c cs
+        → Shows masks s i c cs ↔ Earliest (getD (masksOf masks s) i 0) s i (takenRecords masks (c ∷ cs))
+    close-after-drop = close.close-after-drop masks words accepted s i string manifold
 
 -- a record answered 7 is none of the records taken, and leaves the hall as it was: the number n too, so that a later record for the same
 -- cycle finds what the one before it found
@@ -210,7 +227,7 @@ jet-asks = asks-third
 
 -- A hall is proper if no jet stands in two masks and each saved set lies within its mask: a fresh one over an accepted map is, and every
 -- call keeps it so. Each mapped jet of a proper hall, whether a run reaches it or not, is after a taken record what the jet's rules make of
--- what it was; and a manifold's close bit is set if it was or one of the manifold's jets asks.
+-- what it was; and a manifold's close bit is set if it was, and no drop is carried out, or one of the manifold's jets asks.
 pub calls-proper : (masks : List Masks) → FitMap masks → refused stringCount masks ≡ false → (cs : List Made)
     → ProperHall ((monitorAfter masks cs) .hall)
 calls-proper = handed.calls-proper
@@ -229,12 +246,21 @@ module _ (m : Monitor) (piece out : List ℕ) (proper : ProperHall (m .hall)) (t
       ≡ cycle (m .hall .n) (jetHeard s i j newest) (jetOf i j (stringOf (m .hall) s))
   jet-steps = handed.jet-steps m piece out proper taken s i string manifold
 
-  pub close-steps : bit i ((stringOf ((call m piece out) .outcome .monitor .hall) s) .close)
-      ≡ (bit i ((stringOf (m .hall) s) .close)
-      || any 32
+  -- one of the manifold's jets asks
+  abbrev asking : Bool
+  asking =
+      any 32
       (λ j. bit j (getD (masksOf (m .hall .masks) s) i 0)
-      && asksAt (m .hall .n) (jetHeard s i j newest) (jetOf i j (stringOf (m .hall) s))))
+      && asksAt (m .hall .n) (jetHeard s i j newest) (jetOf i j (stringOf (m .hall) s)))
+
+  pub close-steps : (DropCarriedOut s i (newest .bytes) → ⊥)
+      → bit i ((stringOf ((call m piece out) .outcome .monitor .hall) s) .close) ≡ (bit i ((stringOf (m .hall) s) .close) || asking)
   close-steps = handed.close-steps m piece out proper taken s i string manifold
+
+  -- 02, order 6: where a drop is carried out, the bit that was is gone
+  pub drop-steps : DropCarriedOut s i (newest .bytes)
+      → bit i ((stringOf ((call m piece out) .outcome .monitor .hall) s) .close) ≡ asking
+  drop-steps = handed.drop-steps m piece out proper taken s i string manifold
 
 -- Step 4 of any string, also with overlapping masks and saved sets beyond them: the manifolds' turns, lowest first; and so a minor record
 -- that any hall takes, string by string.

@@ -33,10 +33,10 @@ use Rattle.writer.proofs.Feeding as feeding
 use Rattle.writer.proofs.WriteBack as written-again
 use Rattle.writer.proofs.WrittenBack as back
 
--- "Given the values of a minor or major record, write its 59 or 615 bytes into a lent outbox; refuse a reserved bit or a quantity above
--- 1,000, or an outbox too short, leaving the outbox unchanged, in that order of checks. Bytes past the record keep their values." Each
--- answer is given if and only if its condition holds of the values and the outbox's length; what is written is a whole record, and its
--- values, place by place, are those given. Only what `write` gives back is all that.
+-- "Given the values of a minor or major record, write its 59 or .. bytes into a lent outbox" (order 6: now 619);
+-- "refuse a reserved bit or a quantity above 1,000, or an outbox too short, leaving the outbox unchanged, in that order of checks. Bytes
+-- past the record keep their values." Each answer is given if and only if its condition holds of the values and the outbox's length; what
+-- is written is a whole record, and its values, place by place, are those given. Only what `write` gives back is all that.
 pub writer-does : (r : Record) → FitRecord r → (out : List ℕ) → Does r out (write r out)
 writer-does = doing.writer-does
 

@@ -20,9 +20,14 @@ unfoldable pub warmWords : ℕ → List ℕ
 warmWords zero = []
 warmWords (suc n) = 0x00 ∷ 0x40 ∷ warmWords n
 
--- a major record, 615 bytes: driver of jet 1 of string 0 on, no command; no requests, the quantities are 0
+-- a major record, 619 bytes: driver of jet 1 of string 0 on, no command; no requests, the quantities are 0
 unfoldable pub majorBytes : ℕ → List ℕ
-majorBytes wire = 0x52 ∷ 0x4A ∷ commonBytes wire 0x00000002 ++ warmWords 256 ++ replicate 44 0x00 ++ inTwo (16602 + wire)
+majorBytes wire = 0x52 ∷ 0x4A ∷ commonBytes wire 0x00000002 ++ warmWords 256 ++ replicate 48 0x00 ++ inTwo (16602 + wire)
+
+-- the major record 100: no driver is on, and the close bit of manifold 0 of string 0 is to be dropped
+unfoldable pub repairBytes : List ℕ
+repairBytes =
+    0x52 ∷ 0x4A ∷ commonBytes 100 0x00000000 ++ warmWords 256 ++ replicate 32 0x00 ++ (0x01 ∷ replicate 15 0x00) ++ inTwo 16701
 
 -- a quiet minor record, 59 bytes
 unfoldable pub minorBytes : ℕ → List ℕ

@@ -4,17 +4,17 @@ use mathlib.Core.List.{List, [], _∷_, _++_}
 use Prim.Native.Nat.{ℕ}
 use lib.ListN.{take, drop, replicate}
 use Rattle.cycle.specs.Inside.Runs.{hallAfter}
-use Rattle.cycle.specs.Records.{Record}
+use Rattle.cycle.specs.Records.{Record, major}
 use Rattle.cycle.specs.declared.answer.Answer.{Answer}
 use Rattle.cycle.specs.declared.answer.Answer.the-variants.{Taken, Stale, Repeat, NothingSettled}
 use Rattle.cycle.specs.declared.hall.Hall.{Hall}
 use Rattle.feed.specs.Size.{outboxNeeded}
 use Rattle.feed.specs.Call.{Result, holding}
 use Rattle.feed.specs.Calls.{Made, resultOf, answerOf}
-use Rattle.feed.specs.CloseShown.{Shows, NeverShown}
-use Rattle.promises.specs.NightRecords.{nightMap, sampleWith, recordOfSample}
+use Rattle.feed.specs.CloseShown.{Shows, NotShownSince}
+use Rattle.promises.specs.NightRecords.{nightMap, sampleWith, quietQuantities, droppingWith, recordOfSample}
 use Rattle.promises.specs.NightHolds.{reportOfString}
-use Rattle.promises.specs.Instance.{majorBytes, minorBytes}
+use Rattle.promises.specs.Instance.{majorBytes, minorBytes, repairBytes}
 
 -- ---- what a list of calls states
 
@@ -63,27 +63,27 @@ hallAt75 = hallAfter nightMap (driven 75 ∷ driven 50 ∷ driven 25 ∷ [])
 abbrev pub upTo25 : List Exchanged
 upTo25 =
     gives [] NothingSettled 0 hallAt25 [] room
-    ∷ gives (majorBytes 25) Taken 615 hallAt25 [] (reportOfString 0 25 0x00000000 0x00)
+    ∷ gives (majorBytes 25) Taken 619 hallAt25 [] (reportOfString 0 25 0x00000000 0x00)
     ∷ []
 
 abbrev pub upTo50 : List Exchanged
 upTo50 =
     gives [] NothingSettled 0 hallAt50 [] room
-    ∷ gives (majorBytes 50) Taken 615 hallAt50 [] (reportOfString 0 50 0x00000002 0x00)
-    ∷ gives (majorBytes 25 ++ majorBytes 50) Taken 615 hallAt25 [] (reportOfString 0 25 0x00000000 0x00)
+    ∷ gives (majorBytes 50) Taken 619 hallAt50 [] (reportOfString 0 50 0x00000002 0x00)
+    ∷ gives (majorBytes 25 ++ majorBytes 50) Taken 619 hallAt25 [] (reportOfString 0 25 0x00000000 0x00)
     ∷ []
 
 -- the feed in its pieces: up to record 50, and then record 75 with the close bit of manifold 0 of string 0
 abbrev pub feedTo50 : List Exchanged
 feedTo50 =
-    gives (drop 85 (majorBytes 50) ++ majorBytes 75) Taken 530 hallAt50 [] (reportOfString 0 50 0x00000002 0x00)
+    gives (drop 85 (majorBytes 50) ++ majorBytes 75) Taken 534 hallAt50 [] (reportOfString 0 50 0x00000002 0x00)
     ∷ gives [] NothingSettled 0 hallAt25 (take 85 (majorBytes 50)) room
     ∷ gives (take 85 (majorBytes 50)) NothingSettled 85 hallAt25 (take 85 (majorBytes 50)) room
-    ∷ gives (majorBytes 25 ++ take 85 (majorBytes 50)) Taken 615 hallAt25 [] (reportOfString 0 25 0x00000000 0x00)
+    ∷ gives (majorBytes 25 ++ take 85 (majorBytes 50)) Taken 619 hallAt25 [] (reportOfString 0 25 0x00000000 0x00)
     ∷ []
 
 abbrev pub lastTaken : Exchanged
-lastTaken = gives (majorBytes 75) Taken 615 hallAt75 [] (reportOfString 0 75 0x00000002 0x01)
+lastTaken = gives (majorBytes 75) Taken 619 hallAt75 [] (reportOfString 0 75 0x00000002 0x01)
 
 abbrev pub lastIdle : Exchanged
 lastIdle = gives [] NothingSettled 0 hallAt75 [] room
@@ -91,16 +91,29 @@ lastIdle = gives [] NothingSettled 0 hallAt75 [] room
 abbrev pub feedCalls : List Exchanged
 feedCalls = lastIdle ∷ lastTaken ∷ feedTo50
 
+-- behind record 75 the record that drops the close bit
+abbrev pub repaired : Record
+repaired = major (droppingWith 100 0x01 quietQuantities)
+
+unfoldable pub hallAt100 : Hall
+hallAt100 = hallAfter nightMap (repaired ∷ driven 75 ∷ driven 50 ∷ driven 25 ∷ [])
+
+abbrev pub upTo75 : List Exchanged
+upTo75 = lastTaken ∷ feedTo50
+
+abbrev pub dropTaken : Exchanged
+dropTaken = gives repairBytes Taken 619 hallAt100 [] (reportOfString 0 100 0x00000002 0x00)
+
 -- the longer feed in its pieces, with a repeat and a stale record on the way
 abbrev pub longerTo50 : List Exchanged
 longerTo50 =
     gives (drop 15 (minorBytes 10) ++ majorBytes 75) Stale 44 hallAt50 [] (reportOfString 1 50 0x00000002 0x00)
     ∷ gives (take 15 (minorBytes 10)) NothingSettled 15 hallAt50 (take 15 (minorBytes 10)) room
-    ∷ gives (majorBytes 50 ++ take 15 (minorBytes 10)) Taken 615 hallAt50 [] (reportOfString 0 50 0x00000002 0x00)
-    ∷ gives (drop 385 (majorBytes 25) ++ (majorBytes 50 ++ take 15 (minorBytes 10))) Repeat 230 hallAt25 []
+    ∷ gives (majorBytes 50 ++ take 15 (minorBytes 10)) Taken 619 hallAt50 [] (reportOfString 0 50 0x00000002 0x00)
+    ∷ gives (drop 385 (majorBytes 25) ++ (majorBytes 50 ++ take 15 (minorBytes 10))) Repeat 234 hallAt25 []
     (reportOfString 2 25 0x00000000 0x00)
     ∷ gives (take 385 (majorBytes 25)) NothingSettled 385 hallAt25 (take 385 (majorBytes 25)) room
-    ∷ gives (majorBytes 25 ++ take 385 (majorBytes 25)) Taken 615 hallAt25 [] (reportOfString 0 25 0x00000000 0x00)
+    ∷ gives (majorBytes 25 ++ take 385 (majorBytes 25)) Taken 619 hallAt25 [] (reportOfString 0 25 0x00000000 0x00)
     ∷ []
 
 abbrev pub longerCalls : List Exchanged
@@ -118,4 +131,4 @@ threeReports =
 pub record Appears (xs : List Exchanged) : Type 0 where
   pub answer : answerOf nightMap (handing (majorBytes 75)) (madeOf xs) ≡ Taken
   pub shown : Shows nightMap 0 0 (handing (majorBytes 75)) (madeOf xs)
-  pub never : NeverShown nightMap 0 0 (madeOf xs)
+  pub notBefore : NotShownSince nightMap 0 0 (madeOf xs)

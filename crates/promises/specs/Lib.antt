@@ -6,6 +6,7 @@ pub mod NightsOfLeaks
 pub mod NightsOfJets
 pub mod NightsOfRequests
 pub mod NightsOfBothWays
+pub mod NightsOfDrops
 pub mod NightsOfManifolds
 pub mod NightsOfPaths
 pub mod NightsOfLostValves

@@ -56,7 +56,7 @@ valves opened = record { sample = sampleWith 0 0 opened; requests = noRequests }
 
 -- jets to be inhibited, and jets to be re-enabled
 abbrev pub requesting : ℕ → ℕ → Said
-requesting inhibit reenable = record { sample = quietSample; requests = record { inhibit = inhibit; reenable = reenable } }
+requesting inhibit reenable = record { sample = quietSample; requests = record { inhibit = inhibit; reenable = reenable; drop = 0 } }
 
 -- the same where only these valves are open
 abbrev pub commandingAt : ℕ → ℕ → Said
@@ -64,12 +64,17 @@ commandingAt opened jets = record { sample = sampleWith jets 0 opened; requests 
 
 abbrev pub requestingAt : ℕ → ℕ → ℕ → Said
 requestingAt opened inhibit reenable =
-    record { sample = sampleWith 0 0 opened; requests = record { inhibit = inhibit; reenable = reenable } }
+    record { sample = sampleWith 0 0 opened; requests = record { inhibit = inhibit; reenable = reenable; drop = 0 } }
 
 -- drivers on, without command, where only these valves are open; and requests
 abbrev pub drivingAt : ℕ → ℕ → ℕ → ℕ → Said
 drivingAt opened jets inhibit reenable =
-    record { sample = sampleWith 0 jets opened; requests = record { inhibit = inhibit; reenable = reenable } }
+    record { sample = sampleWith 0 jets opened; requests = record { inhibit = inhibit; reenable = reenable; drop = 0 } }
+
+-- what x says, with this drop byte
+abbrev pub dropping : ℕ → Said → Said
+dropping drop x =
+    record { sample = x .sample; requests = record { inhibit = x .requests .inhibit; reenable = x .requests .reenable; drop = drop } }
 
 -- ---- its bytes
 
@@ -87,10 +92,15 @@ commonPart wire path first second =
 abbrev pub requestBytes : Said → List ℕ
 requestBytes x = inFour (x .requests .inhibit) ++ inFour (x .requests .reenable)
 
--- "512 bytes of injector temperatures", as given; the requests, "for each module fuel then oxidizer, 2 bytes each": all quantities 0
+-- 02, order 6: "one byte a string after the re-enable words of all strings"
+abbrev pub dropBytes : Said → Said → List ℕ
+dropBytes first second = first .requests .drop ∷ second .requests .drop ∷ 0x00 ∷ 0x00 ∷ []
+
+-- "512 bytes of injector temperatures", as given; the requests, the drops, "for each module fuel then oxidizer, 2 bytes each": all
+-- quantities 0
 abbrev pub majorPart : List ℕ → Said → Said → List ℕ
 majorPart temperatures first second =
-    temperatures ++ requestBytes first ++ requestBytes second ++ replicate 16 0x00 ++ replicate 12 0x00
+    temperatures ++ requestBytes first ++ requestBytes second ++ replicate 16 0x00 ++ dropBytes first second ++ replicate 12 0x00
 
 -- "sum, 2 bytes: all earlier bytes of the record, mark included"
 abbrev pub withSum : List ℕ → List ℕ

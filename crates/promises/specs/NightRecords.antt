@@ -48,6 +48,15 @@ majorWith wire sample temperatures quantities = record {
   quantities = quantities;
 }
 
+-- quiet, with this drop byte of string 0
+abbrev pub droppingWith : ℕ → ℕ → List Quantities → Major
+droppingWith wire drop quantities = record {
+  minor = minorWith wire quietSample;
+  temperatures = replicate stringCount quietTemperatures;
+  requests = record { inhibit = 0; reenable = 0; drop = drop } ∷ replicate 3 noRequests;
+  quantities = quantities;
+}
+
 -- the record of the cycle n, which is below 65,536 and so the wire cycle, of the right kind: with this sample; and with the temperatures
 -- and quantities, where it is major
 abbrev pub recordWith : ℕ → Sample → Temperatures → List Quantities → Record

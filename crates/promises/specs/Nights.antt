@@ -15,6 +15,7 @@ use Rattle.promises.specs.NightsOfLeaks.{temperatureNights, frozenNights
 use Rattle.promises.specs.NightsOfJets.{jetNights}
 use Rattle.promises.specs.NightsOfRequests.{requestNights}
 use Rattle.promises.specs.NightsOfBothWays.{bothWaysNights}
+use Rattle.promises.specs.NightsOfDrops.{repairNights, dropNights}
 use Rattle.promises.specs.NightsOfManifolds.{manifoldNights}
 use Rattle.promises.specs.NightsOfPaths.{pathNights}
 use Rattle.promises.specs.NightsOfLostValves.{lostValveNights}
@@ -122,9 +123,12 @@ unfoldable pub starredNights : List Night
 starredNights = firstRecord ∷ failsOff ∷ failsOffAfterGap ∷ failsOn ∷ failsOnAfterGap ∷ valveCloses ∷ wireWraps ∷ quantitiesBalance ∷ []
 
 -- the single list: those that 01 marks, as 02 amends them; those that pin each step where no law does; and those of 02, order 3, from
--- bytes to the close bit, and order 4
+-- bytes to the close bit, and orders 4 and 6
 unfoldable pub nights : List Night
 nights =
     starredNights
     ++ (temperatureNights
-    ++ (jetNights ++ (requestNights ++ (manifoldNights ++ (pathNights ++ (lostValveNights ++ (frozenNights ++ bothWaysNights)))))))
+    ++ (jetNights
+    ++ (requestNights
+    ++ (manifoldNights
+    ++ (pathNights ++ (lostValveNights ++ (frozenNights ++ (bothWaysNights ++ (repairNights ++ dropNights)))))))))

@@ -7,9 +7,9 @@ use Prim.Native.Nat.{ℕ, _<_, _≤_}
 use native.Mathlib.Omega.{arith}
 use borrow.Author.Tests.{lt-leb, le-leb}
 use lib.ListN.{length, drop}
-use Rattle.cycle.specs.Records.{Record, common}
+use Rattle.cycle.specs.Records.{Record}
 use Rattle.writer.specs.RecordBytes.{bytesOf, lengthBy}
-use Rattle.writer.specs.Write.{reservedZero, allRight, checked, answerTo, outboxBy, wrote, write}
+use Rattle.writer.specs.Write.{noReserved, allRight, checked, answerTo, outboxBy, wrote, write}
 use Rattle.writer.specs.declared.answer.Writing.{Writing}
 use Rattle.writer.specs.declared.answer.Writing.the-variants.{Written, ReservedBit, QuantityAbove, OutboxShort}
 
@@ -43,11 +43,11 @@ module _ (r : Record) (out : List ℕ) where
 
   -- ---- case by case
 
-  pub reserved-refused : reservedZero (common r) ≡ false → wrote ReservedBit out ≡ write r out
+  pub reserved-refused : noReserved r ≡ false → wrote ReservedBit out ≡ write r out
   unfolding checked
   reserved-refused e = answered ReservedBit out (rw e refl) refl
 
-  module _ (zero : reservedZero (common r) ≡ true) where
+  module _ (zero : noReserved r ≡ true) where
     pub quantity-refused : allRight r ≡ false → wrote QuantityAbove out ≡ write r out
     unfolding checked
     quantity-refused e = answered QuantityAbove out (rw (zero, e) refl) refl

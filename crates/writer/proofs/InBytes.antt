@@ -13,7 +13,8 @@ use Rattle.feed.specs.Size.{temperatureCount, markByte, minorMark, majorMark}
 use Rattle.feed.specs.Bytes.{inTwo, inFour, parts}
 use Rattle.writer.specs.RecordBytes.{headBytes, sampleBytes, samplesBytes, sampleShown, commonBytes, wordsBytes}
 use Rattle.writer.specs.RecordBytes.{temperaturesShown, temperaturesBytes, requestBytes, requestsShown, requestsBytes}
-use Rattle.writer.specs.RecordBytes.{quantityBytes, quantitiesShown, quantitiesBytes, beforeSum, summed, bytesOf}
+use Rattle.writer.specs.RecordBytes.{dropBytes, dropsShown, dropsBytes, quantityBytes, quantitiesShown, quantitiesBytes, beforeSum}
+use Rattle.writer.specs.RecordBytes.{summed, bytesOf}
 use Rattle.writer.specs.Fit.{FitMinor, FitRecord}
 
 data Bytes : List ℕ → Type 0 where
@@ -57,13 +58,14 @@ common-bytes mark r h fit =
     (all-parts stringCount (sampleShown (r .samples)) (λ s b. sample-bytes (sampleOf r s) (fit .sample s b .valves)))
 
 before-bytes : (r : Record) → FitRecord r → Bytes (beforeSum r)
-unfolding beforeSum temperaturesBytes wordsBytes requestsBytes requestBytes quantitiesBytes quantityBytes
+unfolding beforeSum temperaturesBytes wordsBytes requestsBytes requestBytes dropsBytes dropBytes quantitiesBytes quantityBytes
 before-bytes (minor r) fit = common-bytes minorMark r (omega arith) fit
 before-bytes (major r) fit =
     both (common-bytes majorMark (r .minor) (omega arith) (fit .minor))
     (both (all-parts stringCount (temperaturesShown (r .temperatures)) (λ s b. all-parts temperatureCount _ (λ k c. in-two _)))
     (both (all-parts stringCount (requestsShown (r .requests)) (λ s b. both (in-four _) (in-four _)))
-    (all-parts moduleCount (quantitiesShown (r .quantities)) (λ m b. both (in-two _) (in-two _)))))
+    (both (all-parts stringCount (dropsShown (r .requests)) (λ s b. first (fit .requests s b .drop) none))
+    (all-parts moduleCount (quantitiesShown (r .quantities)) (λ m b. both (in-two _) (in-two _))))))
 
 pub bytes-in-bytes : (r : Record) → FitRecord r → (i : ℕ) → getD (bytesOf r) i 0 < 256
 unfolding bytesOf summed

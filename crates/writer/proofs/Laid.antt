@@ -8,7 +8,7 @@ use lib.ListN.{length, set, take, drop, drop-of-length-le, length-append}
 use lib.Seq.{sets, sets-eq, take-at}
 use Rattle.cycle.specs.Size.{stringCount, moduleCount}
 use Rattle.feed.specs.Size.{wordLength, wireAt, wireLength, pathAt, samplesFrom, valvesIn, sampleLength, temperaturesFrom}
-use Rattle.feed.specs.Size.{temperaturesLength, requestsFrom, requestsLength, quantitiesFrom, quantitiesLength, majorSummed}
+use Rattle.feed.specs.Size.{temperaturesLength, requestsFrom, requestsLength, dropsFrom, quantitiesFrom, quantitiesLength, majorSummed}
 use Rattle.feed.proofs.Reports.Written.{put-next, set-last}
 
 pub lay : (d p q x : List ℕ) (a k : ℕ) → x ≡ p ++ drop a d → length p ≡ a → putMid a k x q ≡ (p ++ q) ++ drop (a + k) d
@@ -47,11 +47,11 @@ head-laid d y m n path l ly =
     ap (λ (t : List ℕ). set t pathAt path) (lay d mark y (sets d 0 mark) wireAt wireLength begun refl)
     ∙ set-last d (mark ++ y) pathAt path (both-long mark y wireAt wireLength refl ly) l
 
--- what stands before the sum: the part that both kinds have, and for a major record the three behind it
+-- what stands before the sum: the part that both kinds have, and for a major record the four behind it
 pub minor-laid : (d c : List ℕ) (n : ℕ) → length c ≡ n → take n (c ++ drop n d) ≡ c
 minor-laid d c n e = take-at c (drop n d) n e
 
--- the lengths of these three
+-- the lengths of these, but for the drop bytes
 abbrev heat : ℕ
 heat = temperaturesLength * stringCount
 
@@ -61,18 +61,23 @@ asks = requestsLength * stringCount
 abbrev fill : ℕ
 fill = quantitiesLength * moduleCount
 
-pub major-laid : (d c t a q : List ℕ) → length c ≡ temperaturesFrom → length t ≡ heat → length a ≡ asks → length q ≡ fill
+pub major-laid : (d c t a o q : List ℕ) → length c ≡ temperaturesFrom → length t ≡ heat → length a ≡ asks → length o ≡ stringCount
+    → length q ≡ fill
     → take majorSummed
-    (putMid quantitiesFrom fill (putMid requestsFrom asks (putMid temperaturesFrom heat (c ++ drop temperaturesFrom d) t) a) q)
-    ≡ c ++ (t ++ (a ++ q))
-major-laid d c t a q lc lt la lq =
+    (putMid quantitiesFrom fill
+    (putMid dropsFrom stringCount (putMid requestsFrom asks (putMid temperaturesFrom heat (c ++ drop temperaturesFrom d) t) a) o) q)
+    ≡ c ++ (t ++ (a ++ (o ++ q)))
+major-laid d c t a o q lc lt la lo lq =
     let one = both-long c t temperaturesFrom heat lc lt in
     let two = both-long (c ++ t) a requestsFrom asks one la in
-    let three = both-long ((c ++ t) ++ a) q quantitiesFrom fill two lq in
+    let three = both-long ((c ++ t) ++ a) o dropsFrom stringCount two lo in
+    let four = both-long (((c ++ t) ++ a) ++ o) q quantitiesFrom fill three lq in
     let x = lay d c t (c ++ drop temperaturesFrom d) temperaturesFrom heat refl lc in
     let y = lay d (c ++ t) a _ requestsFrom asks x one in
-    let z = lay d ((c ++ t) ++ a) q _ quantitiesFrom fill y two in
+    let w = lay d ((c ++ t) ++ a) o _ dropsFrom stringCount y two in
+    let z = lay d (((c ++ t) ++ a) ++ o) q _ quantitiesFrom fill w three in
     ap (take majorSummed) z
-    ∙ take-at (((c ++ t) ++ a) ++ q) (drop majorSummed d) majorSummed three
-    ∙ append-assoc (c ++ t) a q
-    ∙ append-assoc c t (a ++ q)
+    ∙ take-at ((((c ++ t) ++ a) ++ o) ++ q) (drop majorSummed d) majorSummed four
+    ∙ append-assoc ((c ++ t) ++ a) o q
+    ∙ append-assoc (c ++ t) a (o ++ q)
+    ∙ append-assoc c t (a ++ (o ++ q))

@@ -17,7 +17,8 @@ use Rattle.feed.specs.Size.{requestsLength, quantitiesLength, sumLength}
 use Rattle.feed.proofs.Reports.Parts.{parts-length}
 use Rattle.writer.specs.RecordBytes.{headBytes, sampleBytes, sampleShown, samplesBytes, commonBytes, wordShown, wordsBytes}
 use Rattle.writer.specs.RecordBytes.{temperaturesShown, temperaturesBytes, requestBytes, requestsShown, requestsBytes}
-use Rattle.writer.specs.RecordBytes.{quantityBytes, quantitiesShown, quantitiesBytes, beforeSum, summed, bytesOf, lengthBy}
+use Rattle.writer.specs.RecordBytes.{dropBytes, dropsShown, dropsBytes, quantityBytes, quantitiesShown, quantitiesBytes, beforeSum}
+use Rattle.writer.specs.RecordBytes.{summed, bytesOf, lengthBy}
 
 pub head-length : (mark wire path : ℕ) → length (headBytes mark wire path) ≡ samplesFrom
 unfolding headBytes
@@ -53,6 +54,14 @@ pub requests-length : (l : List Requests) → length (requestsBytes l) ≡ reque
 unfolding requestsBytes
 requests-length l = parts-length requestsLength (requestsShown l) (λ s. request-length _) stringCount
 
+pub drop-length : (x : Requests) → length (dropBytes x) ≡ 1
+unfolding dropBytes
+drop-length x = refl
+
+pub drops-length : (l : List Requests) → length (dropsBytes l) ≡ stringCount
+unfolding dropsBytes
+drops-length l = parts-length 1 (dropsShown l) (λ s. drop-length _) stringCount
+
 pub quantity-length : (q : Quantities) → length (quantityBytes q) ≡ quantitiesLength
 unfolding quantityBytes
 quantity-length q = refl
@@ -66,16 +75,19 @@ unfolding beforeSum
 before-length (minor r) = omega (arith, common-length minorMark r)
 before-length (major r) =
     let q = quantitiesBytes (r .quantities) in
+    let d = dropsBytes (r .requests) in
     let a = requestsBytes (r .requests) in
     let t = temperaturesBytes (r .temperatures) in
     omega (
       arith,
-      length-append (commonBytes majorMark (r .minor)) (t ++ (a ++ q)),
-      length-append t (a ++ q),
-      length-append a q,
+      length-append (commonBytes majorMark (r .minor)) (t ++ (a ++ (d ++ q))),
+      length-append t (a ++ (d ++ q)),
+      length-append a (d ++ q),
+      length-append d q,
       common-length majorMark (r .minor),
       temperatures-length (r .temperatures),
       requests-length (r .requests),
+      drops-length (r .requests),
       quantities-length (r .quantities),
     )
 

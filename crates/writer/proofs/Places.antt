@@ -1,5 +1,5 @@
 -- What stands where in a record's bytes: mark, path byte, valve bytes, and every value that fits its width. Assumes nothing.
-use mathlib.Core.Path.{_≡_, refl, ap, _∙_}
+use mathlib.Core.Path.{_≡_, refl, sym, ap, subst, _∙_}
 use mathlib.Core.List.{List, [], _∷_, _++_}
 use Prim.Native.Nat.{ℕ, _+_, _*_, _^_, _<_}
 use native.Mathlib.Nat.{zero-add}
@@ -17,19 +17,20 @@ use Rattle.cycle.specs.declared.values.Quantities.{Quantities}
 use Rattle.cycle.specs.declared.values.Major.{Major}
 use Rattle.feed.specs.Size.{markByte, minorMark, majorMark, wireAt, pathAt, samplesFrom, valvesIn, sampleLength}
 use Rattle.feed.specs.Size.{temperatureCount, temperatureLength, temperaturesFrom, temperaturesLength, requestsFrom, requestsLength}
-use Rattle.feed.specs.Size.{quantitiesFrom, quantitiesLength, quantityLength, wordLength}
+use Rattle.feed.specs.Size.{dropsFrom, quantitiesFrom, quantitiesLength, quantityLength, wordLength}
 use Rattle.feed.specs.Bytes.{two, four, inTwo, inFour}
 use Rattle.feed.specs.Format.{sumOf}
 use Rattle.feed.proofs.Records.NumbersInBytes.{two-inTwo, four-inFour, two-stands, four-stands}
 use Rattle.feed.proofs.Reports.Stands.{Stands, front, back, part}
 use Rattle.writer.specs.RecordBytes.{headBytes, sampleBytes, sampleShown, samplesBytes, commonBytes, wordShown, wordsBytes}
 use Rattle.writer.specs.RecordBytes.{temperaturesShown, temperaturesBytes, requestBytes, requestsShown, requestsBytes}
-use Rattle.writer.specs.RecordBytes.{quantityBytes, quantitiesShown, quantitiesBytes, beforeSum, summed, bytesOf}
+use Rattle.writer.specs.RecordBytes.{dropBytes, dropsShown, dropsBytes, quantityBytes, quantitiesShown, quantitiesBytes, beforeSum}
+use Rattle.writer.specs.RecordBytes.{summed, bytesOf}
 use Rattle.writer.specs.Fit.{FitSample, FitMinor, FitTemperatures, FitRequests, FitQuantities, FitRecord}
 use Rattle.writer.specs.Carries.{CarriesSample, CarriesMinor, CarriesTemperatures, CarriesRequests, CarriesQuantities}
 use Rattle.writer.specs.Carries.{Carries}
 use Rattle.writer.proofs.Lengths.{head-length, sample-length, common-length, words-length, temperatures-length, request-length}
-use Rattle.writer.proofs.Lengths.{requests-length, quantity-length}
+use Rattle.writer.proofs.Lengths.{requests-length, drop-length, drops-length, quantity-length}
 
 module _ (l : List ℕ) where
   -- ---- a number where its bytes stand
@@ -78,14 +79,20 @@ module _ (l : List ℕ) where
             ap (two l) e ∙ word (2 * j + 1) (omega arith);
       }
 
-  requests-carried : (x : Requests) (a : ℕ) → FitRequests x → Stands l (requestBytes x) a → CarriesRequests l a x
+  pub drop-at : (x : Requests) (k : ℕ) → Stands l (dropBytes x) k → getD l k 0 ≡ x .drop
+  unfolding dropBytes
+  drop-at x k h = let e : k + 0 ≡ k = omega arith in ap (λ (n : ℕ). getD l n 0) (sym e) ∙ h 0 (omega arith)
+
+  requests-carried : (x : Requests) (a k : ℕ) → FitRequests x → Stands l (requestBytes x) a → Stands l (dropBytes x) k
+      → CarriesRequests l a k x
   unfolding requestBytes
-  requests-carried x a fit h =
+  requests-carried x a k fit h d =
       let i = inFour (x .inhibit) in
       let r = inFour (x .reenable) in
       record {
         inhibit = four-at (x .inhibit) a (fit .inhibit) (front l i r a h);
         reenable = four-at (x .reenable) (a + wordLength) (fit .reenable) (back l i r a wordLength refl h);
+        drop = drop-at x k d;
       }
 
   pub quantities-carried : (q : Quantities) (a : ℕ) → FitQuantities q → Stands l (quantityBytes q) a → CarriesQuantities l a q
@@ -136,11 +143,14 @@ module _ (l : List ℕ) where
   -- ---- the bytes that only a major record has
 
   module _ (r : Major) (h : Stands l (beforeSum (major r)) 0) where
+    end : List ℕ
+    end = dropsBytes (r .requests) ++ quantitiesBytes (r .quantities)
+
     tail : List ℕ
-    tail = requestsBytes (r .requests) ++ quantitiesBytes (r .quantities)
+    tail = requestsBytes (r .requests) ++ end
 
     behind : Stands l (temperaturesBytes (r .temperatures) ++ tail) temperaturesFrom
-    unfolding beforeSum tail
+    unfolding beforeSum tail end
     behind =
         back l (commonBytes majorMark (r .minor)) (temperaturesBytes (r .temperatures) ++ tail) 0 temperaturesFrom
         (common-length majorMark (r .minor)) h
@@ -161,15 +171,29 @@ module _ (l : List ℕ) where
     unfolding tail requestsBytes
     requests-stand s b =
         part l stringCount requestsLength (requestsShown (r .requests)) (λ i. request-length _) requestsFrom
-        (front l (requestsBytes (r .requests)) (quantitiesBytes (r .quantities)) requestsFrom behind-temperatures) s b
+        (front l (requestsBytes (r .requests)) end requestsFrom behind-temperatures) s b
+
+    behind-requests : Stands l end dropsFrom
+    unfolding tail
+    behind-requests =
+        back l (requestsBytes (r .requests)) end requestsFrom (requestsLength * stringCount) (requests-length (r .requests))
+        behind-temperatures
+
+    pub drops-stand : (s : ℕ) → s < stringCount → Stands l (dropsShown (r .requests) s) (dropsFrom + s)
+    unfolding end dropsBytes
+    drops-stand s b =
+        let place : dropsFrom + 1 * s ≡ dropsFrom + s = omega arith in
+        subst (Stands l (dropsShown (r .requests) s)) place
+        (part l stringCount 1 (dropsShown (r .requests)) (λ i. drop-length _) dropsFrom
+        (front l (dropsBytes (r .requests)) (quantitiesBytes (r .quantities)) dropsFrom behind-requests) s b)
 
     pub quantities-stand : (m : ℕ) → m < moduleCount
         → Stands l (quantitiesShown (r .quantities) m) (quantitiesFrom + quantitiesLength * m)
-    unfolding tail quantitiesBytes
+    unfolding end quantitiesBytes
     quantities-stand m b =
         part l moduleCount quantitiesLength (quantitiesShown (r .quantities)) (λ i. quantity-length _) quantitiesFrom
-        (back l (requestsBytes (r .requests)) (quantitiesBytes (r .quantities)) requestsFrom (requestsLength * stringCount)
-        (requests-length (r .requests)) behind-temperatures)
+        (back l (dropsBytes (r .requests)) (quantitiesBytes (r .quantities)) dropsFrom stringCount (drops-length (r .requests))
+        behind-requests)
         m b
 
 -- ---- the whole
@@ -189,7 +213,8 @@ unfolding beforeSum
 common-stands (minor r) = before-stands (minor r)
 common-stands (major r) =
     front (bytesOf (major r)) (commonBytes majorMark (r .minor))
-    (temperaturesBytes (r .temperatures) ++ (requestsBytes (r .requests) ++ quantitiesBytes (r .quantities))) 0
+    (temperaturesBytes (r .temperatures)
+    ++ (requestsBytes (r .requests) ++ (dropsBytes (r .requests) ++ quantitiesBytes (r .quantities)))) 0
     (before-stands (major r))
 
 common-carried : (r : Record) → FitMinor (common r) → CarriesMinor (bytesOf r) (common r)
@@ -206,8 +231,8 @@ bytes-carry (major r) fit =
           temperatures-carried l (getD (r .temperatures) s noTemperatures) (temperaturesFrom + temperaturesLength * s)
           (fit .temperatures s b) (temperatures-stand l r h s b);
       requests = λ s b.
-          requests-carried l (getD (r .requests) s noRequests) (requestsFrom + requestsLength * s) (fit .requests s b)
-          (requests-stand l r h s b);
+          requests-carried l (getD (r .requests) s noRequests) (requestsFrom + requestsLength * s) (dropsFrom + s)
+          (fit .requests s b) (requests-stand l r h s b) (drops-stand l r h s b);
       quantities = λ m b.
           quantities-carried l (getD (r .quantities) m noQuantities) (quantitiesFrom + quantitiesLength * m) (fit .quantities m b)
           (quantities-stand l r h m b);

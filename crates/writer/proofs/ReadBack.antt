@@ -58,8 +58,8 @@ module _ (l : List ℕ) (a : ℕ) where
       let words : wordsAt l a ≡ t .words = listed _ 0 temperatureCount (t .words) e (word-back t c) in
       λ i. record { words = words i }
 
-  requests-back : (x : Requests) → CarriesRequests l a x → requestsAt l a ≡ x
-  requests-back x c = λ i. record { inhibit = c .inhibit i; reenable = c .reenable i }
+  requests-back : (k : ℕ) (x : Requests) → CarriesRequests l a k x → requestsAt l a k ≡ x
+  requests-back k x c = λ i. record { inhibit = c .inhibit i; reenable = c .reenable i; drop = c .drop i }
 
   quantities-back : (q : Quantities) → CarriesQuantities l a q → quantitiesAt l a ≡ q
   quantities-back q c = λ i. record { fuel = c .fuel i; oxidizer = c .oxidizer i }
@@ -82,7 +82,7 @@ module _ (l : List ℕ) where
       listed _ noTemperatures stringCount (r .temperatures) (fit .heated)
       (λ s b. temperatures-back l _ _ (fit .temperatures s b .many) (c .temperatures s b)) in
       let requests : requestsOf l ≡ r .requests =
-      listed _ noRequests stringCount (r .requests) (fit .asked) (λ s b. requests-back l _ _ (c .requests s b)) in
+      listed _ noRequests stringCount (r .requests) (fit .asked) (λ s b. requests-back l _ _ _ (c .requests s b)) in
       let quantities : quantitiesOf l ≡ r .quantities =
       listed _ noQuantities moduleCount (r .quantities) (fit .modules) (λ m b. quantities-back l _ _ (c .quantities m b)) in
       λ i. record { minor = same i; temperatures = temperatures i; requests = requests i; quantities = quantities i }

@@ -15,14 +15,15 @@ use Rattle.cycle.specs.Size.{stringCount, moduleCount}
 use Rattle.cycle.specs.Banks.{noQuantities}
 use Rattle.cycle.specs.Hall.{sampleOf}
 use Rattle.cycle.specs.Records.{Record, minor, major, common}
-use Rattle.cycle.specs.declared.values.Minor.{Minor}
+use Rattle.cycle.specs.Views.{dropByte}
 use Rattle.cycle.specs.declared.values.Quantities.{Quantities}
 use Rattle.feed.specs.Size.{reservedFrom, mostQuantity}
 use Rattle.feed.proofs.Records.Lengths.{by-test, below-or}
 use Rattle.writer.specs.RecordBytes.{bytesOf, lengthBy}
-use Rattle.writer.specs.Write.{valvesZero, reservedZero, twoRight, moduleRight, quantitiesRight, allRight, Wrote, write}
+use Rattle.writer.specs.Write.{valvesZero, reservedZero, dropZero, dropsZero, noReserved, twoRight, moduleRight, quantitiesRight}
+use Rattle.writer.specs.Write.{allRight, Wrote, write}
 use Rattle.writer.specs.Answers.{numberOf}
-use Rattle.writer.specs.Refused.{HasReserved, inPath, inValves, HasAbove, inFuel, inOxidizer, AboveIn, needed}
+use Rattle.writer.specs.Refused.{HasReserved, inPath, inValves, inDrops, HasAbove, inFuel, inOxidizer, AboveIn, needed}
 use Rattle.writer.specs.Refused.{AnsweredWhen, Numbered}
 use Rattle.writer.specs.declared.answer.Writing.{Writing}
 use Rattle.writer.specs.declared.answer.Writing.the-variants.{Written, ReservedBit, QuantityAbove, OutboxShort}
@@ -31,26 +32,54 @@ use Rattle.writer.proofs.Answering.{reserved-refused, quantity-refused,
 
 -- ---- the tests, and what they say of the values
 
-module _ (r : Minor) where
-  pub none-reserved : reservedZero r ≡ true → HasReserved r → ⊥
-  unfolding reservedZero
-  none-reserved e (inPath h) =
-      let l = ltb-true (r .path) reservedFrom (and-left (ltb (r .path) reservedFrom) (every stringCount (valvesZero r)) e) in
-      omega arith
-  none-reserved e (inValves s b h) =
-      let l = ltb-true ((sampleOf r s) .valves) reservedFrom
-      (every-at stringCount (valvesZero r) (and-right (ltb (r .path) reservedFrom) (every stringCount (valvesZero r)) e) s b) in
-      omega arith
+-- what records of both kinds have
+pub common-zero : (r : Record) → noReserved r ≡ true → reservedZero (common r) ≡ true
+common-zero (minor r) e = e
+common-zero (major r) e = and-left (reservedZero (r .minor)) (dropsZero (r .requests)) e
 
-  some-reserved : reservedZero r ≡ false → HasReserved r
-  unfolding reservedZero
-  some-reserved e = by (and-cases (ltb (r .path) reservedFrom) (every stringCount (valvesZero r)) e)
-    where
-      by : (ltb (r .path) reservedFrom ≡ false) ⊎ (every stringCount (valvesZero r) ≡ false) → HasReserved r
-      by (inl p) = inPath (ltb-false (r .path) reservedFrom p)
-      by (inr v) =
-          let x = every-fails stringCount (valvesZero r) v in
-          inValves (x .0) (x .1) (ltb-false ((sampleOf r (x .0)) .valves) reservedFrom (x .2))
+-- the drop bytes of a major one
+drop-zero : (r : Record) → noReserved r ≡ true → (s : ℕ) → s < stringCount → dropByte s r < reservedFrom
+unfolding dropsZero
+drop-zero (minor r) e s b = omega arith
+drop-zero (major r) e s b =
+    ltb-true _ reservedFrom
+    (every-at stringCount (dropZero (r .requests)) (and-right (reservedZero (r .minor)) (dropsZero (r .requests)) e) s b)
+
+pub none-reserved : (r : Record) → noReserved r ≡ true → HasReserved r → ⊥
+unfolding reservedZero
+none-reserved r e (inPath h) =
+    let m = common r in
+    let l = ltb-true (m .path) reservedFrom
+    (and-left (ltb (m .path) reservedFrom) (every stringCount (valvesZero m)) (common-zero r e)) in
+    omega arith
+none-reserved r e (inValves s b h) =
+    let m = common r in
+    let l = ltb-true ((sampleOf m s) .valves) reservedFrom
+    (every-at stringCount (valvesZero m)
+    (and-right (ltb (m .path) reservedFrom) (every stringCount (valvesZero m)) (common-zero r e)) s b) in
+    omega arith
+none-reserved r e (inDrops s b h) = omega (arith, drop-zero r e s b)
+
+common-reserved : (r : Record) → reservedZero (common r) ≡ false → HasReserved r
+unfolding reservedZero
+common-reserved r e = by (and-cases (ltb ((common r) .path) reservedFrom) (every stringCount (valvesZero (common r))) e)
+  where
+    by : (ltb ((common r) .path) reservedFrom ≡ false) ⊎ (every stringCount (valvesZero (common r)) ≡ false) → HasReserved r
+    by (inl p) = inPath (ltb-false ((common r) .path) reservedFrom p)
+    by (inr v) =
+        let x = every-fails stringCount (valvesZero (common r)) v in
+        inValves (x .0) (x .1) (ltb-false ((sampleOf (common r) (x .0)) .valves) reservedFrom (x .2))
+
+some-reserved : (r : Record) → noReserved r ≡ false → HasReserved r
+unfolding dropsZero
+some-reserved (minor r) e = common-reserved (minor r) e
+some-reserved (major r) e = by (and-cases (reservedZero (r .minor)) (dropsZero (r .requests)) e)
+  where
+    by : (reservedZero (r .minor) ≡ false) ⊎ (dropsZero (r .requests) ≡ false) → HasReserved (major r)
+    by (inl c) = common-reserved (major r) c
+    by (inr d) =
+        let x = every-fails stringCount (dropZero (r .requests)) d in
+        inDrops (x .0) (x .1) (ltb-false (dropByte (x .0) (major r)) reservedFrom (x .2))
 
 module _ (l : List Quantities) where
   both-right : (m : ℕ) → m < moduleCount → quantitiesRight l ≡ true → twoRight (getD l m noQuantities) ≡ true
@@ -100,37 +129,37 @@ needs-length (major r) = refl
 
 -- what the writer gives back under its answer's condition: the record's bytes and behind them what was there, or the outbox handed in
 pub data Gives (r : Record) (out : List ℕ) (x : Wrote) : Type 0 where
-  writes : AnsweredWhen Written r (length out) → reservedZero (common r) ≡ true → allRight r ≡ true → x .answer ≡ Written
+  writes : AnsweredWhen Written r (length out) → noReserved r ≡ true → allRight r ≡ true → x .answer ≡ Written
       → x .outbox ≡ bytesOf r ++ drop (lengthBy r) out → Gives r out x
   refuses : (a : Writing) → AnsweredWhen a r (length out) → (a ≡ Written → ⊥) → x .answer ≡ a → x .outbox ≡ out → Gives r out x
 
 module _ (r : Record) (out : List ℕ) where
   pub gives : Gives r out (write r out)
   gives =
-      by-test (reservedZero (common r))
+      by-test (noReserved r)
       (λ zero.
       by-test (allRight r) (λ right. room zero right (below-or (length out) (lengthBy r)))
       (λ e.
       let q = quantity-refused r out zero e in
-      refuses QuantityAbove (none-reserved (common r) zero, some-above-in r e) (λ d. let z : _≡_ {A = ℕ} 0 1 = cc in omega arith)
+      refuses QuantityAbove (none-reserved r zero, some-above-in r e) (λ d. let z : _≡_ {A = ℕ} 0 1 = cc in omega arith)
       (sym (ap (λ (x : Wrote). x .answer) q)) (sym (ap (λ (x : Wrote). x .outbox) q))))
       (λ e.
       let q = reserved-refused r out e in
-      refuses ReservedBit (some-reserved (common r) e) (λ d. let z : _≡_ {A = ℕ} 0 1 = cc in omega arith)
+      refuses ReservedBit (some-reserved r e) (λ d. let z : _≡_ {A = ℕ} 0 1 = cc in omega arith)
       (sym (ap (λ (x : Wrote). x .answer) q)) (sym (ap (λ (x : Wrote). x .outbox) q)))
     where
-      room : reservedZero (common r) ≡ true → allRight r ≡ true → (length out < lengthBy r) ⊎ (lengthBy r ≤ length out)
+      room : noReserved r ≡ true → allRight r ≡ true → (length out < lengthBy r) ⊎ (lengthBy r ≤ length out)
           → Gives r out (write r out)
       room zero right (inl l) =
           let q = short-refused r out zero right l in
           let n = needs-length r in
-          refuses OutboxShort (none-reserved (common r) zero, none-above-in r right, omega arith)
+          refuses OutboxShort (none-reserved r zero, none-above-in r right, omega arith)
           (λ d. let z : _≡_ {A = ℕ} 0 1 = cc in omega arith)
           (sym (ap (λ (x : Wrote). x .answer) q)) (sym (ap (λ (x : Wrote). x .outbox) q))
       room zero right (inr l) =
           let q = is-written r out zero right (bytesOf r) l refl in
           let n = needs-length r in
-          writes (none-reserved (common r) zero, none-above-in r right, omega arith) zero right
+          writes (none-reserved r zero, none-above-in r right, omega arith) zero right
           (sym (ap (λ (x : Wrote). x .answer) q)) (sym (ap (λ (x : Wrote). x .outbox) q))
 
 -- no two answers have one number
@@ -207,10 +236,10 @@ module _ (r : Record) (out : List ℕ) where
       by x t (refuses a c h e o) = absurd (h (sym e ∙ t))
 
   -- the tests that a written record has passed
-  pub written-tests : (write r out) .answer ≡ Written → (reservedZero (common r) ≡ true) × (allRight r ≡ true)
+  pub written-tests : (write r out) .answer ≡ Written → (noReserved r ≡ true) × (allRight r ≡ true)
   written-tests t = by (write r out) t (gives r out)
     where
-      by : (x : Wrote) → x .answer ≡ Written → Gives r out x → (reservedZero (common r) ≡ true) × (allRight r ≡ true)
+      by : (x : Wrote) → x .answer ≡ Written → Gives r out x → (noReserved r ≡ true) × (allRight r ≡ true)
       by x t (writes c zero right e o) = (zero, right)
       by x t (refuses a c h e o) = absurd (h (sym e ∙ t))
 

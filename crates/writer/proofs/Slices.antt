@@ -34,11 +34,17 @@ module _ (l : List ℕ) where
       joined a (k * n) k (a + k * n) refl (parts-joined a k f n (λ s b. h s (omega arith))) (h n (omega arith))
       ∙ ap (sliceAt l a) (sym (mul-suc k n))
 
+  -- elements of a table, each shown as a slice of k elements
+  pub items-joined : {A : Type 0} (d : A) (item : ℕ → A) (show : A → List ℕ) (a k n : ℕ)
+      → ((s : ℕ) → s < n → show (item s) ≡ sliceAt l (a + k * s) k)
+      → parts n (λ s. show (getD (table n item) s d)) ≡ sliceAt l a (k * n)
+  items-joined d item show a k n h =
+      parts-joined a k (λ s. show (getD (table n item) s d)) n (λ s b. ap show (table-at item d n s b) ∙ h s b)
+
   -- elements read at places k apart, each shown as the slice that it was read from
   pub table-joined : {A : Type 0} (d : A) (read : ℕ → A) (show : A → List ℕ) (a k n : ℕ) → a + k * n ≤ length l
       → ((i : ℕ) → i + k ≤ length l → show (read i) ≡ sliceAt l i k)
       → parts n (λ s. show (getD (table n (λ t. read (a + k * t))) s d)) ≡ sliceAt l a (k * n)
   table-joined d read show a k n fits h =
-      parts-joined a k (λ s. show (getD (table n (λ t. read (a + k * t))) s d)) n (λ s b.
-      ap show (table-at (λ t. read (a + k * t)) d n s b)
-      ∙ h (a + k * s) (omega (arith, mul-suc k s, mul-le-mul-left {m = suc s} {n = n} k b)))
+      items-joined d (λ t. read (a + k * t)) show a k n (λ s b.
+      h (a + k * s) (omega (arith, mul-suc k s, mul-le-mul-left {m = suc s} {n = n} k b)))

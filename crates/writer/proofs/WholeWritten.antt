@@ -15,22 +15,24 @@ use Rattle.bits.proofs.Yes.{and-left, and-right}
 use Rattle.bits.proofs.Every.{every-at, every-from}
 use Rattle.cycle.specs.Size.{stringCount, moduleCount}
 use Rattle.cycle.specs.Banks.{noQuantities}
-use Rattle.cycle.specs.Hall.{sampleOf}
+use Rattle.cycle.specs.Hall.{sampleOf, noRequests}
 use Rattle.cycle.specs.Records.{Record, minor, major, common}
 use Rattle.cycle.specs.declared.values.Major.{Major}
 use Rattle.feed.specs.Size.{reservedFrom, mostQuantity, quantitiesFrom, quantitiesLength, samplesFrom, valvesIn, sampleLength}
-use Rattle.feed.specs.Size.{sumLength}
+use Rattle.feed.specs.Size.{dropsFrom, sumLength}
 use Rattle.feed.specs.Bytes.{two, inTwo}
 use Rattle.feed.specs.Format.{total, sumOf}
 use Rattle.feed.specs.Format as format
-use Rattle.feed.specs.Good.{ReservedZero, SumRight, QuantitiesRight, WholeRecord}
+use Rattle.feed.specs.Good.{ReservedZero, DropsZero, SumRight, QuantitiesRight, WholeRecord}
 use Rattle.feed.proofs.Records.GoodParts.{quantities-to}
 use Rattle.writer.specs.RecordBytes.{beforeSum, summed, bytesOf}
-use Rattle.writer.specs.Write.{valvesZero, reservedZero, twoRight, moduleRight, quantitiesRight, allRight}
+use Rattle.writer.specs.Write.{valvesZero, reservedZero, dropZero, dropsZero, noReserved, twoRight, moduleRight, quantitiesRight}
+use Rattle.writer.specs.Write.{allRight}
 use Rattle.writer.specs.Refused.{WholeOf}
 use Rattle.writer.proofs.Lengths.{bytes-length}
-use Rattle.writer.proofs.Places.{two-at, valves-at, quantities-carried, marked, path-there, sample-stands, quantities-stand}
-use Rattle.writer.proofs.Places.{markBy, before-stands, common-stands}
+use Rattle.writer.proofs.Places.{two-at, valves-at, drop-at, quantities-carried, marked, path-there, sample-stands, quantities-stand}
+use Rattle.writer.proofs.Places.{drops-stand, markBy, before-stands, common-stands}
+use Rattle.writer.proofs.Refusals.{common-zero}
 
 -- the sum behind what it sums
 sum-right : (b : List ℕ) → SumRight (summed b)
@@ -60,6 +62,13 @@ module _ (r : Record) where
             rw (valve s b) (ltb-true ((sampleOf m s) .valves) reservedFrom (every-at stringCount (valvesZero m) valves s b));
       }
 
+drops-right : (r : Major) → dropsZero (r .requests) ≡ true → DropsZero (bytesOf (major r))
+unfolding dropsZero
+drops-right r e s b =
+    let l = bytesOf (major r) in
+    rw (drop-at l (getD (r .requests) s noRequests) (dropsFrom + s) (drops-stand l r (before-stands (major r)) s b))
+    (ltb-true _ reservedFrom (every-at stringCount (dropZero (r .requests)) e s b))
+
 quantities-right : (r : Major) → quantitiesRight (r .quantities) ≡ true → QuantitiesRight (bytesOf (major r))
 unfolding quantitiesRight twoRight format.quantitiesRight
 quantities-right r e =
@@ -78,7 +87,7 @@ quantities-right r e =
 
 -- ---- the whole
 
-pub written-whole : (r : Record) → reservedZero (common r) ≡ true → allRight r ≡ true → WholeOf r (bytesOf r)
+pub written-whole : (r : Record) → noReserved r ≡ true → allRight r ≡ true → WholeOf r (bytesOf r)
 unfolding bytesOf
 written-whole (minor r) z q = record {
   long = bytes-length (minor r);
@@ -90,10 +99,11 @@ written-whole (major r) z q = record {
   long = bytes-length (major r);
   mark = marked (bytesOf (major r)) (markBy (major r)) (r .minor) (common-stands (major r));
   sum = sum-right (beforeSum (major r));
-  reserved = reserved-right (major r) z;
+  reserved = reserved-right (major r) (common-zero (major r) z);
+  drops = drops-right r (and-right (reservedZero (r .minor)) (dropsZero (r .requests)) z);
   quantities = quantities-right r q;
 }
 
-pub written-record : (r : Record) → reservedZero (common r) ≡ true → allRight r ≡ true → WholeRecord (bytesOf r)
+pub written-record : (r : Record) → noReserved r ≡ true → allRight r ≡ true → WholeRecord (bytesOf r)
 written-record (minor r) z q = inl (written-whole (minor r) z q)
 written-record (major r) z q = inr (written-whole (major r) z q)

@@ -16,30 +16,32 @@ use Rattle.bits.proofs.Every.{every-at, every-from}
 use Rattle.cycle.specs.Size.{stringCount, moduleCount}
 use Rattle.cycle.specs.Banks.{noQuantities}
 use Rattle.cycle.specs.Hall.{noSample, noTemperatures, noRequests}
-use Rattle.cycle.specs.Records.{minor, major, common}
+use Rattle.cycle.specs.Records.{minor, major}
 use Rattle.cycle.specs.declared.values.Sample.{Sample}
+use Rattle.cycle.specs.declared.values.Requests.{Requests}
 use Rattle.cycle.specs.declared.values.Quantities.{Quantities}
 use Rattle.feed.specs.Size.{markByte, minorMark, majorMark, wireAt, wireLength, pathAt, samplesFrom, wordLength, valvesIn}
 use Rattle.feed.specs.Size.{temperaturesFrom, temperatureCount, temperatureLength, temperaturesLength, requestsFrom, requestsLength}
 use Rattle.feed.specs.Size.{quantitiesFrom, quantitiesLength, quantityLength, sampleLength, minorSummed, majorSummed, sumLength}
-use Rattle.feed.specs.Size.{reservedFrom}
+use Rattle.feed.specs.Size.{reservedFrom, dropsFrom}
 use Rattle.feed.specs.Bytes.{two, four, inTwo}
 use Rattle.feed.specs.Format.{sumOf}
 use Rattle.feed.specs.Format as format
-use Rattle.feed.specs.Good.{ReservedZero, SumRight, QuantitiesRight, MinorRecord, MajorRecord, WholeRecord}
+use Rattle.feed.specs.Good.{ReservedZero, DropsZero, SumRight, QuantitiesRight, MinorRecord, MajorRecord, WholeRecord}
 use Rattle.feed.specs.Values.{sampleAt, samplesOf, minorOf, wordsAt, temperaturesAt, temperaturesOf, requestsAt, requestsOf}
 use Rattle.feed.specs.Values.{quantitiesAt, quantitiesOf, majorOf, valuesOf}
 use Rattle.feed.proofs.Records.GoodParts.{quantities-from}
 use Rattle.feed.proofs.Records.Lengths.{cond-by}
 use Rattle.feed.proofs.Records.NumbersInBytes.{inTwo-two, inFour-four}
 use Rattle.writer.specs.RecordBytes.{headBytes, sampleBytes, samplesBytes, commonBytes, wordsBytes, temperaturesBytes}
-use Rattle.writer.specs.RecordBytes.{requestBytes, requestsBytes, quantityBytes, quantitiesBytes, beforeSum, summed, bytesOf}
-use Rattle.writer.specs.RecordBytes.{lengthBy}
-use Rattle.writer.specs.Write.{valvesZero, reservedZero, twoRight, moduleRight, quantitiesRight, allRight}
+use Rattle.writer.specs.RecordBytes.{requestBytes, requestsBytes, dropBytes, dropsBytes, quantityBytes, quantitiesBytes}
+use Rattle.writer.specs.RecordBytes.{beforeSum, summed, bytesOf, lengthBy}
+use Rattle.writer.specs.Write.{valvesZero, reservedZero, dropZero, dropsZero, noReserved, twoRight, moduleRight, quantitiesRight}
+use Rattle.writer.specs.Write.{allRight}
 use Rattle.writer.specs.Fit.{FitSample, FitMinor, FitTemperatures, FitRequests, FitQuantities, FitMajor, FitRecord}
 use Rattle.feed.proofs.Records.Tables.{table-length}
 use Rattle.writer.proofs.Listed.{table-holds}
-use Rattle.writer.proofs.Slices.{sliceAt, one-slice, joined, table-joined}
+use Rattle.writer.proofs.Slices.{sliceAt, one-slice, joined, items-joined, table-joined}
 
 -- ---- which kind is read
 
@@ -62,6 +64,13 @@ module _ (l : List ℕ) where
       and-both (ltb (getD l pathAt 0) reservedFrom) (every stringCount (valvesZero (minorOf l))) (lt-ltb _ reservedFrom (z .path))
       (every-from stringCount (valvesZero (minorOf l)) (λ s b. lt-ltb _ reservedFrom (valves s b)))
 
+  drops-read : DropsZero l → dropsZero (requestsOf l) ≡ true
+  unfolding dropsZero requestsOf
+  drops-read z =
+      let drops : (s : ℕ) → s < stringCount → (getD (requestsOf l) s noRequests) .drop < reservedFrom =
+      table-holds _ (λ (x : Requests). x .drop < reservedFrom) noRequests stringCount z in
+      every-from stringCount (dropZero (requestsOf l)) (λ s b. lt-ltb _ reservedFrom (drops s b))
+
   quantities-read : QuantitiesRight l → quantitiesRight (quantitiesOf l) ≡ true
   unfolding quantitiesRight quantitiesOf twoRight format.quantitiesRight
   quantities-read q =
@@ -70,10 +79,15 @@ module _ (l : List ℕ) where
       (every-at moduleCount (λ m. format.twoRight l (quantitiesFrom + quantitiesLength * m)) (quantities-from l q)))
 
   pub values-right : WholeRecord l
-      → (reservedZero (common (valuesOf l)) ≡ true) × (allRight (valuesOf l) ≡ true) × (lengthBy (valuesOf l) ≡ length l)
+      → (noReserved (valuesOf l) ≡ true) × (allRight (valuesOf l) ≡ true) × (lengthBy (valuesOf l) ≡ length l)
   unfolding majorOf
   values-right (inl m) = rw (minor-read l m) (reserved-read (m .reserved), refl, sym (m .long))
-  values-right (inr m) = rw (major-read l m) (reserved-read (m .reserved), quantities-read (m .quantities), sym (m .long))
+  values-right (inr m) =
+      rw (major-read l m) (
+        and-both (reservedZero (minorOf l)) (dropsZero (requestsOf l)) (reserved-read (m .reserved)) (drops-read (m .drops)),
+        quantities-read (m .quantities),
+        sym (m .long),
+      )
 
 module _ (l : List ℕ) (bytes : (i : ℕ) → getD l i 0 < 256) where
   -- ---- the widths
@@ -108,8 +122,8 @@ module _ (l : List ℕ) (bytes : (i : ℕ) → getD l i 0 < 256) where
     word = table-holds _ (λ (w : ℕ). w < 2 ^ 16) 0 temperatureCount (λ k b. two-fits _);
   }
 
-  requests-fit : (i : ℕ) → FitRequests (requestsAt l i)
-  requests-fit i = record { inhibit = four-fits i; reenable = four-fits (i + wordLength) }
+  requests-fit : (i k : ℕ) → FitRequests (requestsAt l i k)
+  requests-fit i k = record { inhibit = four-fits i; reenable = four-fits (i + wordLength); drop = bytes k }
 
   quantities-fit : (i : ℕ) → FitQuantities (quantitiesAt l i)
   quantities-fit i = record { fuel = two-fits i; oxidizer = two-fits (i + quantityLength) }
@@ -121,7 +135,7 @@ module _ (l : List ℕ) (bytes : (i : ℕ) → getD l i 0 < 256) where
     heated = table-length _ stringCount;
     temperatures = table-holds _ FitTemperatures noTemperatures stringCount (λ s b. temperatures-fit _);
     asked = table-length _ stringCount;
-    requests = table-holds _ FitRequests noRequests stringCount (λ s b. requests-fit _);
+    requests = table-holds _ FitRequests noRequests stringCount (λ s b. requests-fit _ _);
     modules = table-length _ moduleCount;
     quantities = table-holds _ FitQuantities noQuantities moduleCount (λ m b. quantities-fit _);
   }
@@ -145,11 +159,15 @@ module _ (l : List ℕ) (bytes : (i : ℕ) → getD l i 0 < 256) where
   unfolding wordsBytes wordsAt
   words-back i h = table-joined l 0 (two l) inTwo i temperatureLength temperatureCount h (inTwo-two l bytes)
 
-  request-back : (i : ℕ) → i + requestsLength ≤ length l → requestBytes (requestsAt l i) ≡ sliceAt l i requestsLength
+  request-back : (i k : ℕ) → i + requestsLength ≤ length l → requestBytes (requestsAt l i k) ≡ sliceAt l i requestsLength
   unfolding requestBytes
-  request-back i h =
+  request-back i k h =
       joined l i wordLength wordLength (i + wordLength) refl (inFour-four l bytes i (omega arith))
       (inFour-four l bytes (i + wordLength) (omega arith))
+
+  drop-back : (i k : ℕ) → k < length l → dropBytes (requestsAt l i k) ≡ sliceAt l k 1
+  unfolding dropBytes
+  drop-back i k h = one-slice l k _ h refl
 
   quantity-back : (i : ℕ) → i + quantitiesLength ≤ length l → quantityBytes (quantitiesAt l i) ≡ sliceAt l i quantitiesLength
   unfolding quantityBytes
@@ -172,17 +190,26 @@ module _ (l : List ℕ) (bytes : (i : ℕ) → getD l i 0 < 256) where
 
   major-back : majorSummed ≤ length l → getD l 0 0 ≡ markByte → getD l 1 0 ≡ majorMark
       → beforeSum (major (majorOf l)) ≡ sliceAt l 0 majorSummed
-  unfolding beforeSum majorOf temperaturesBytes temperaturesOf requestsBytes requestsOf quantitiesBytes quantitiesOf
+  unfolding beforeSum majorOf temperaturesBytes temperaturesOf requestsBytes requestsOf dropsBytes quantitiesBytes quantitiesOf
   major-back h e f =
       let t = temperaturesLength * stringCount in
       let a = requestsLength * stringCount in
       let q = quantitiesLength * moduleCount in
-      joined l 0 minorSummed (t + (a + q)) temperaturesFrom refl (common-back majorMark (omega arith) e f)
-      (joined l temperaturesFrom t (a + q) requestsFrom refl
+      joined l 0 minorSummed (t + (a + (stringCount + q))) temperaturesFrom refl (common-back majorMark (omega arith) e f)
+      (joined l temperaturesFrom t (a + (stringCount + q)) requestsFrom refl
       (table-joined l noTemperatures (temperaturesAt l) wordsBytes temperaturesFrom temperaturesLength stringCount (omega arith) words-back)
-      (joined l requestsFrom a q quantitiesFrom refl
-      (table-joined l noRequests (requestsAt l) requestBytes requestsFrom requestsLength stringCount (omega arith) request-back)
-      (table-joined l noQuantities (quantitiesAt l) quantityBytes quantitiesFrom quantitiesLength moduleCount h quantity-back)))
+      (joined l requestsFrom a (stringCount + q) dropsFrom refl
+      (items-joined l noRequests asked requestBytes requestsFrom requestsLength stringCount
+      (λ s b. request-back (requestsFrom + requestsLength * s) (dropsFrom + s) (omega arith)))
+      (joined l dropsFrom stringCount q quantitiesFrom refl
+      (items-joined l noRequests asked dropBytes dropsFrom 1 stringCount
+      (λ s b.
+      let place : dropsFrom + s ≡ dropsFrom + 1 * s = omega arith in
+      drop-back (requestsFrom + requestsLength * s) (dropsFrom + s) (omega arith) ∙ ap (λ (k : ℕ). sliceAt l k 1) place))
+      (table-joined l noQuantities (quantitiesAt l) quantityBytes quantitiesFrom quantitiesLength moduleCount h quantity-back))))
+    where
+      asked : ℕ → Requests
+      asked s = requestsAt l (requestsFrom + requestsLength * s) (dropsFrom + s)
 
   -- with the sum behind it
   sum-back : (n : ℕ) {b : List ℕ} → length l ≡ n + sumLength → SumRight l → b ≡ sliceAt l 0 n → summed b ≡ l

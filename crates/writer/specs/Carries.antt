@@ -1,5 +1,5 @@
--- 01, "The feed", place by place: what values the bytes of a record carry. The numbers are written as document 01 writes or adds them up.
--- Assumes nothing.
+-- 01, "The feed", place by place, as 02, order 6, amends it: what values the bytes of a record carry. The numbers are written as the
+-- documents write or add them up. Assumes nothing.
 use mathlib.Core.Path.{_≡_}
 use mathlib.Core.List.{List}
 use Prim.Native.Nat.{ℕ, _+_, _*_, _<_}
@@ -33,10 +33,11 @@ pub record CarriesTemperatures (l : List ℕ) (i : ℕ) (t : Temperatures) : Typ
   pub fuel : (j : ℕ) → j < 32 → two l (i + 4 * j) ≡ getD (t .words) (2 * j) 0
   pub oxidizer : (j : ℕ) → j < 32 → two l (i + 4 * j + 2) ≡ getD (t .words) (2 * j + 1) 0
 
--- "an inhibit word and a re-enable word (4 bytes each)"
-pub record CarriesRequests (l : List ℕ) (i : ℕ) (x : Requests) : Type 0 where
+-- "an inhibit word and a re-enable word (4 bytes each)", from place i on; 02, order 6: the drop byte, at place k
+pub record CarriesRequests (l : List ℕ) (i k : ℕ) (x : Requests) : Type 0 where
   pub inhibit : four l i ≡ x .inhibit
   pub reenable : four l (i + 4) ≡ x .reenable
+  pub drop : getD l k 0 ≡ x .drop
 
 -- "fuel then oxidizer, 2 bytes each"
 pub record CarriesQuantities (l : List ℕ) (i : ℕ) (q : Quantities) : Type 0 where
@@ -47,8 +48,8 @@ pub record CarriesQuantities (l : List ℕ) (i : ℕ) (q : Quantities) : Type 0 
 pub record CarriesMajor (l : List ℕ) (r : Major) : Type 0 where
   pub common : CarriesMinor l (r .minor)
   pub temperatures : (s : ℕ) → s < 4 → CarriesTemperatures l (57 + 128 * s) (getD (r .temperatures) s noTemperatures)
-  pub requests : (s : ℕ) → s < 4 → CarriesRequests l (569 + 8 * s) (getD (r .requests) s noRequests)
-  pub quantities : (m : ℕ) → m < 3 → CarriesQuantities l (601 + 4 * m) (getD (r .quantities) m noQuantities)
+  pub requests : (s : ℕ) → s < 4 → CarriesRequests l (569 + 8 * s) (601 + s) (getD (r .requests) s noRequests)
+  pub quantities : (m : ℕ) → m < 3 → CarriesQuantities l (605 + 4 * m) (getD (r .quantities) m noQuantities)
 
 abbrev pub Carries : List ℕ → Record → Type 0
 Carries l (minor r) = CarriesMinor l r

@@ -25,5 +25,5 @@ pub record Does (r : Record) (out : List ℕ) (x : Wrote) : Type 0 where
   pub answers : (a : Writing) → (x .answer ≡ a) ↔ AnsweredWhen a r (length out)
   -- "leaving the outbox unchanged"
   pub unchanged : (x .answer ≡ Written → ⊥) → x .outbox ≡ out
-  -- "write its 59 or 615 bytes into a lent outbox"
+  -- "write its 59 or .. bytes into a lent outbox"; order 6: 619
   pub writes : x .answer ≡ Written → RecordIn r out (x .outbox)

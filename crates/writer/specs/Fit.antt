@@ -34,6 +34,7 @@ pub record FitTemperatures (t : Temperatures) : Type 0 where
 pub record FitRequests (x : Requests) : Type 0 where
   pub inhibit : x .inhibit < 2 ^ 32
   pub reenable : x .reenable < 2 ^ 32
+  pub drop : x .drop < 2 ^ 8
 
 pub record FitQuantities (q : Quantities) : Type 0 where
   pub fuel : q .fuel < 2 ^ 16

@@ -1,5 +1,5 @@
--- 02, order 1: "Given the values of a minor or major record, write its 59 or 615 bytes": the bytes, in the words and the order of 01, "The
--- feed". Assumes nothing.
+-- 02, order 1: "Given the values of a minor or major record, write its .. bytes": the bytes, in the words and the order of 01, "The feed",
+-- as order 6 amends it. Assumes nothing.
 use mathlib.Core.List.{List, [], _∷_, _++_}
 use Prim.Native.Nat.{ℕ}
 use lib.ListN.{getD}
@@ -57,6 +57,16 @@ requestsShown requests s = requestBytes (getD requests s noRequests)
 unfoldable pub requestsBytes : List Requests → List ℕ
 requestsBytes requests = parts stringCount (requestsShown requests)
 
+-- 02, order 6: "one byte a string after the re-enable words of all strings"
+unfoldable pub dropBytes : Requests → List ℕ
+dropBytes x = x .drop ∷ []
+
+abbrev pub dropsShown : List Requests → ℕ → List ℕ
+dropsShown requests s = dropBytes (getD requests s noRequests)
+
+unfoldable pub dropsBytes : List Requests → List ℕ
+dropsBytes requests = parts stringCount (dropsShown requests)
+
 -- "for each module fuel then oxidizer, 2 bytes each"
 unfoldable pub quantityBytes : Quantities → List ℕ
 quantityBytes q = inTwo (q .fuel) ++ inTwo (q .oxidizer)
@@ -72,7 +82,8 @@ unfoldable pub beforeSum : Record → List ℕ
 beforeSum (minor r) = commonBytes minorMark r
 beforeSum (major r) =
     commonBytes majorMark (r .minor)
-    ++ (temperaturesBytes (r .temperatures) ++ (requestsBytes (r .requests) ++ quantitiesBytes (r .quantities)))
+    ++ (temperaturesBytes (r .temperatures)
+    ++ (requestsBytes (r .requests) ++ (dropsBytes (r .requests) ++ quantitiesBytes (r .quantities))))
 
 -- "sum, 2 bytes: all earlier bytes of the record, mark included, added modulo 65,536": the reader's own
 unfoldable pub summed : List ℕ → List ℕ
@@ -81,7 +92,7 @@ summed l = l ++ inTwo (sumOf l)
 unfoldable pub bytesOf : Record → List ℕ
 bytesOf r = summed (beforeSum r)
 
--- "its 59 or 615 bytes"
+-- "its 59 or .. bytes"; order 6: "The record is now 619 bytes"
 abbrev pub lengthBy : Record → ℕ
 lengthBy (minor r) = minorLength
 lengthBy (major r) = majorLength

@@ -8,16 +8,18 @@ use lib.ListN.{getD}
 use Rattle.cycle.specs.Banks.{noQuantities}
 use Rattle.cycle.specs.Hall.{sampleOf}
 use Rattle.cycle.specs.Records.{Record, minor, major, common}
-use Rattle.cycle.specs.declared.values.Minor.{Minor}
+use Rattle.cycle.specs.Views.{dropByte}
 use Rattle.cycle.specs.declared.values.Quantities.{Quantities}
 use Rattle.feed.specs.Good.{MinorRecord, MajorRecord}
 use Rattle.writer.specs.declared.answer.Writing.{Writing}
 use Rattle.writer.specs.declared.answer.Writing.the-variants.{Written, ReservedBit, QuantityAbove, OutboxShort}
 
--- "a reserved bit": one of bits 4 to 7 of the path byte or of a string's valve byte, which is then 16 or more
-pub data HasReserved (r : Minor) : Type 0 where
-  inPath : 16 ≤ r .path → HasReserved r
-  inValves : (s : ℕ) → s < 4 → 16 ≤ (sampleOf r s) .valves → HasReserved r
+-- "a reserved bit": one of bits 4 to 7 of the path byte or of a string's valve byte, or, of a major record, of its drop byte (order 6),
+-- which is then 16 or more
+pub data HasReserved (r : Record) : Type 0 where
+  inPath : 16 ≤ (common r) .path → HasReserved r
+  inValves : (s : ℕ) → s < 4 → 16 ≤ (sampleOf (common r) s) .valves → HasReserved r
+  inDrops : (s : ℕ) → s < 4 → 16 ≤ dropByte s r → HasReserved r
 
 -- "a quantity above 1,000": the fuel or the oxidizer of a module; a minor record has none
 pub data HasAbove (quantities : List Quantities) : Type 0 where
@@ -28,17 +30,17 @@ abbrev pub AboveIn : Record → Type 0
 AboveIn (minor r) = ⊥
 AboveIn (major r) = HasAbove (r .quantities)
 
--- "its 59 or 615 bytes"
+-- "its 59 or .. bytes"; order 6: "The record is now 619 bytes"
 abbrev pub needed : Record → ℕ
 needed (minor r) = 59
-needed (major r) = 615
+needed (major r) = 619
 
 -- "in that order of checks"
 abbrev pub AnsweredWhen : Writing → Record → ℕ → Type 0
-AnsweredWhen Written r room = (HasReserved (common r) → ⊥) × (AboveIn r → ⊥) × (needed r ≤ room)
-AnsweredWhen ReservedBit r room = HasReserved (common r)
-AnsweredWhen QuantityAbove r room = (HasReserved (common r) → ⊥) × AboveIn r
-AnsweredWhen OutboxShort r room = (HasReserved (common r) → ⊥) × (AboveIn r → ⊥) × (room < needed r)
+AnsweredWhen Written r room = (HasReserved r → ⊥) × (AboveIn r → ⊥) × (needed r ≤ room)
+AnsweredWhen ReservedBit r room = HasReserved r
+AnsweredWhen QuantityAbove r room = (HasReserved r → ⊥) × AboveIn r
+AnsweredWhen OutboxShort r room = (HasReserved r → ⊥) × (AboveIn r → ⊥) × (room < needed r)
 
 -- "Refusal numbers are the writer's own, listed in docs/.": n is the number of the answer, as docs/FORMATS.md lists it
 pub record Numbered (n : ℕ) (r : Record) (room : ℕ) : Type 0 where

@@ -8,9 +8,10 @@ use lib.ListN.{length, getD, drop}
 use Rattle.bits.specs.Bit.{every}
 use Rattle.cycle.specs.Size.{stringCount, moduleCount}
 use Rattle.cycle.specs.Banks.{noQuantities}
-use Rattle.cycle.specs.Hall.{sampleOf}
-use Rattle.cycle.specs.Records.{Record, minor, major, common}
+use Rattle.cycle.specs.Hall.{sampleOf, noRequests}
+use Rattle.cycle.specs.Records.{Record, minor, major}
 use Rattle.cycle.specs.declared.values.Minor.{Minor}
+use Rattle.cycle.specs.declared.values.Requests.{Requests}
 use Rattle.cycle.specs.declared.values.Quantities.{Quantities}
 use Rattle.feed.specs.Size.{reservedFrom, mostQuantity}
 use Rattle.writer.specs.RecordBytes.{bytesOf, lengthBy}
@@ -24,6 +25,18 @@ valvesZero r s = ltb ((sampleOf r s) .valves) reservedFrom
 
 unfoldable pub reservedZero : Minor → Bool
 reservedZero r = ltb (r .path) reservedFrom && every stringCount (valvesZero r)
+
+-- those of each string's drop byte are
+abbrev pub dropZero : List Requests → ℕ → Bool
+dropZero requests s = ltb ((getD requests s noRequests) .drop) reservedFrom
+
+unfoldable pub dropsZero : List Requests → Bool
+dropsZero requests = every stringCount (dropZero requests)
+
+-- a minor record has no drop bytes
+abbrev pub noReserved : Record → Bool
+noReserved (minor r) = reservedZero r
+noReserved (major r) = reservedZero (r .minor) && dropsZero (r .requests)
 
 -- no quantity is "above 1,000"
 unfoldable pub twoRight : Quantities → Bool
@@ -45,7 +58,7 @@ unfoldable pub checked : Bool → Bool → Bool → Writing
 checked zero right fits = cond zero (cond right (cond fits Written OutboxShort) QuantityAbove) ReservedBit
 
 abbrev pub answerTo : Record → ℕ → Writing
-answerTo r room = checked (reservedZero (common r)) (allRight r) (leb (lengthBy r) room)
+answerTo r room = checked (noReserved r) (allRight r) (leb (lengthBy r) room)
 
 -- the outbox then: the record's bytes and behind them its own, or "unchanged"
 abbrev pub outboxBy : Writing → Record → List ℕ → List ℕ

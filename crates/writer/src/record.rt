@@ -7,7 +7,8 @@ ghost use Rattle.cycle.specs.Records.{minor, major};
 ghost use Rattle.feed.specs.Size.{sampleLength, samplesFrom, minorSummed, minorLength, temperaturesLength, requestsLength};
 ghost use Rattle.feed.specs.Size.{quantitiesLength, majorLength, sumLength};
 ghost use Rattle.writer.specs.RecordBytes.{headBytes, sampleBytes, samplesBytes, commonBytes, wordsBytes, temperaturesBytes};
-ghost use Rattle.writer.specs.RecordBytes.{requestBytes, requestsBytes, quantityBytes, quantitiesBytes, summed, bytesOf};
+ghost use Rattle.writer.specs.RecordBytes.{requestBytes, requestsBytes, dropBytes, dropsBytes, quantityBytes, quantitiesBytes};
+ghost use Rattle.writer.specs.RecordBytes.{summed, bytesOf};
 use cycle::size::MODULES;
 use cycle::size::STRINGS;
 use cycle::size::TEMPERATURES;
@@ -20,6 +21,7 @@ use cycle::values::Temperatures;
 use feed::bytes::put_four;
 use feed::bytes::put_two;
 use feed::format::sum;
+use feed::size::DROPS_FROM;
 use feed::size::MAJOR_MARK;
 use feed::size::MAJOR_SUMMED;
 use feed::size::MARK;
@@ -135,6 +137,26 @@ fn put_requests(b: &mut [u8], requests: [Requests; STRINGS])
     }
 }
 
+// One string's drop byte.
+fn put_drop(b: &mut [u8], x: Requests)
+    requires { ⌜ length (now b) ≡ 1 ⌝ }
+    ensures { λ r. ⌜ now (b .exit) ≡ dropBytes x ⌝ }
+{
+    b[0] = x.drop;
+}
+
+fn put_drops(b: &mut [u8], requests: [Requests; STRINGS])
+    requires { ⌜ length (now b) ≡ stringCount ⌝ }
+    ensures { λ r. ⌜ now (b .exit) ≡ dropsBytes requests ⌝ }
+{
+    let mut s: usize = 0;
+    while s < STRINGS {
+        let x = requests[s];
+        put_drop(&mut b[s..s + 1], x);
+        s += 1;
+    }
+}
+
 // One module's quantities.
 fn put_quantity(b: &mut [u8], q: Quantities)
     requires { ⌜ length (now b) ≡ quantitiesLength ⌝ }
@@ -187,7 +209,8 @@ pub(crate) fn put_major(b: &mut [u8], r: Major)
     let quantities = r.quantities;
     put_common(&mut b[0..MINOR_SUMMED], MAJOR_MARK, minor);
     put_temperatures(&mut b[TEMPERATURES_FROM..REQUESTS_FROM], temperatures);
-    put_requests(&mut b[REQUESTS_FROM..QUANTITIES_FROM], requests);
+    put_requests(&mut b[REQUESTS_FROM..DROPS_FROM], requests);
+    put_drops(&mut b[DROPS_FROM..QUANTITIES_FROM], requests);
     put_quantities(&mut b[QUANTITIES_FROM..MAJOR_SUMMED], quantities);
     put_sum(b);
 }

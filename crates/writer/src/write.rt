@@ -5,6 +5,7 @@ ghost use Rattle.writer.specs.Write.{checked, wrote, write};
 use crate::answer::Writing;
 use crate::record::put_major;
 use crate::record::put_minor;
+use crate::test::drops_zero;
 use crate::test::quantities_right;
 use crate::test::reserved_zero;
 use cycle::values::Major;
@@ -40,14 +41,15 @@ pub fn write_minor(values: Minor, out: &mut [u8]) -> Writing
     answer
 }
 
-// The 615 bytes of a major record.
+// The 619 bytes of a major record.
 pub fn write_major(values: Major, out: &mut [u8]) -> Writing
     ensures { λ r. ⌜ wrote r (now (out .exit)) ≡ write (major values) (now (out .entry)) ⌝ }
 {
     let minor = values.minor;
+    let requests = values.requests;
     let quantities = values.quantities;
     let answer = checked(
-        reserved_zero(minor),
+        reserved_zero(minor) & drops_zero(requests),
         quantities_right(quantities),
         MAJOR_LENGTH <= out.len(),
     );

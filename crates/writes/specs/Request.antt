@@ -29,7 +29,7 @@ headerIn l = record { kind = getD l 0 0; room = two l 1; fill = getD l 3 0 }
 unfoldable pub allowed : Header → Bool
 allowed h = leb (h .kind) majorAsked && leb (h .room) longestOutbox
 
--- "the values in the record's order, without mark and sum (55, or 611 for a major)"
+-- "the values in the record's order, without mark and sum (55, or 615 for a major)"
 abbrev pub valuesLength : ℕ → ℕ
 valuesLength kind = cond (eqb kind majorAsked) (majorSummed - markLength) (minorSummed - markLength)
 

@@ -3,7 +3,7 @@
 //
 // Standard input has any number of requests, one after the other. A request: its kind (1 byte: 0 a minor record, 1 a major one), the
 // outbox's length (2, at most 1,024), the byte that the outbox is filled with beforehand (1), and the values in the record's order, without
-// mark and sum (55, or 611 for a major).
+// mark and sum (55, or 615 for a major).
 //
 // Standard output has for each request the number of the writer's answer (1 byte) and the whole outbox. At the end of its input, at a
 // request that breaks off, at another kind and at a longer outbox the program stops silently.

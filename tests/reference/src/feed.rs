@@ -2,7 +2,7 @@
 
 use crate::hall::{Masks, NOTHING_SETTLED, TAKEN};
 use crate::monitor::Monitor;
-use crate::reader::look;
+use crate::reader::look_and_tell;
 use crate::record::Record;
 use crate::report::REPORT_LENGTH;
 
@@ -49,11 +49,16 @@ pub fn run(input: &[u8]) -> Vec<u8> {
 
 /// The masks of the program's input, and the records that settle in its feed, whatever they are answered.
 pub fn records(input: &[u8]) -> (Masks, Vec<Record>) {
+    records_and_lost(input, |_| {})
+}
+
+/// The same, and tells of each full record that is lost.
+pub fn records_and_lost(input: &[u8], mut lost: impl FnMut(&[u8])) -> (Masks, Vec<Record>) {
     let (masks, feed) = input.split_first_chunk().expect("masks");
     let (mut held, mut records) = (Vec::new(), Vec::new());
     for byte in feed {
         held.push(*byte);
-        while let Some(record) = look(&mut held) {
+        while let Some(record) = look_and_tell(&mut held, &mut lost) {
             records.push(record);
         }
     }

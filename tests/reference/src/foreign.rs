@@ -2,18 +2,20 @@
 //! bits of jets in no mask, valves and close words with high bits, any n, any banks. Each with a few
 //! calls whose records are made to meet what the hall has; and how often each case was met.
 
-use crate::both_ways_cases::BothWaysCases;
+use crate::counted::Counted;
 use crate::hall::{overlap, Hall, BOTH_WAYS, NOTHING_SETTLED, OUTBOX_SHORT, TAKEN};
 use crate::jet::{bit, leaks, Jet};
 use crate::jet_string::JetString;
-use crate::leak_cases::LeakCases;
 use crate::monitor::{Monitor, MOST_HELD, STORE_LENGTH};
 use crate::random::Random;
-use crate::reader::look;
+use crate::reader::look_and_tell;
 use crate::record::{Record, StringMajor, StringWords};
 use crate::script::{call, state, WHOLE_HALL};
 use crate::state::{hall_from, masks_of, HALL_LENGTH};
-use crate::world::{masks, name_both_ways, name_one_way, quantities, telling_leaks, temperatures, union};
+use crate::world::{
+    drops, masks, name_both_ways, name_one_way, quantities, reserve_a_drop_bit, telling_leaks, temperatures,
+    union,
+};
 
 /// How often each case was met. Strings, manifolds and jets are counted at taken records whose path
 /// bit is clear, unless said otherwise.
@@ -22,7 +24,7 @@ pub struct Cases {
     pub halls: u64,
     pub with_overlapping_masks: u64,
     pub with_held_bytes: u64,
-    pub with_a_claim_above_614: u64,
+    pub with_a_claim_above_618: u64,
     pub calls: u64,
     pub answers_0_to_5: [u64; 6],
     pub answers_7: u64,
@@ -51,6 +53,7 @@ pub struct Cases {
     pub leaking: u64,
     pub failed_on: u64,
     pub close_bits_gained: u64,
+    pub close_bits_lost: u64,
 }
 
 impl Cases {
@@ -89,6 +92,7 @@ impl Cases {
                 });
                 self.failed_on += count(&after.jets, |jet| jet.recheck);
                 self.close_bits_gained += u64::from((after.close & !before.close).count_ones());
+                self.close_bits_lost += u64::from((before.close & !after.close).count_ones());
             }
         }
     }
@@ -144,19 +148,14 @@ fn has_bits_in_no_mask(jet: &Jet) -> bool {
 }
 
 /// The script of a seed: a hall and one to three calls.
-pub fn script(
-    seed: u64,
-    cases: &mut Cases,
-    leak_cases: &mut LeakCases,
-    both_ways_cases: &mut BothWaysCases,
-) -> Vec<u8> {
+pub fn script(seed: u64, cases: &mut Cases, counted: &mut Counted) -> Vec<u8> {
     // Far from the seeds of feeds and scripts.
     let mut random = Random(0x4A11_0000_0000 + seed);
     let hall = hall(&mut random);
     let mut monitor = Monitor { hall: hall_from(&hall), held: 0, store: [0; STORE_LENGTH] };
     cases.halls += 1;
     cases.with_overlapping_masks += u64::from(overlap(&masks_of(&monitor.hall)));
-    both_ways_cases.begin();
+    counted.begin();
 
     let mut piece = next_piece(&monitor.hall, &mut random);
     let (held, store) = held(&mut piece, &mut random, cases);
@@ -164,26 +163,34 @@ pub fn script(
     let calls = 1 + random.below(3) as u16;
     let mut script = state(WHOLE_HALL, &hall, held, &store);
     script.extend(calls.to_be_bytes());
-    for _ in 0..calls {
+    for number in 0..calls {
         let length = random.pick(&[34, 34, 34, 34, 34, 34, 34, 40, 33, 0]);
         let mut outbox = random.bytes(length);
         script.extend(call(&piece, &outbox));
-        let settled = look(&mut [monitor.take_held(), piece.clone()].concat());
-        let before = monitor.hall.clone();
-        let (answer, _) = monitor.call(&piece, &mut outbox);
+        let mut lost = Vec::new();
+        let mut bytes = [monitor.take_held(), piece.clone()].concat();
+        let settled = look_and_tell(&mut bytes, |bytes| lost.push(bytes.to_vec()));
+        let before = monitor.clone();
+        let (answer, used) = monitor.call(&piece, &mut outbox);
         cases.add(answer);
-        if let Some(record) = &settled {
-            both_ways_cases.add(answer, &before, record);
-            if answer == TAKEN {
-                cases.add_taken(&before, record, &monitor.hall);
-                leak_cases.add_call(record, &monitor.hall);
-            }
+        counted.add_call(answer, &before.hall, settled.as_ref(), &monitor.hall, &lost);
+        for claims in counted.claims.iter_mut().filter(|_| number == 0) {
+            claims.add(&before, &piece, (answer, used), &monitor);
+        }
+        if let Some(record) = settled.as_ref().filter(|_| answer == TAKEN) {
+            cases.add_taken(&before.hall, record, &monitor.hall);
         }
         piece = match (answer, settled) {
             // The caller tries again, ..
             (OUTBOX_SHORT, _) => piece,
             // .. now and then also where it named jets both ways.
-            (BOTH_WAYS, Some(record)) if random.one_in(2) => one_way(record, &before, &mut random).bytes(),
+            (BOTH_WAYS, Some(record)) if random.one_in(2) => {
+                one_way(record, &before.hall, &mut random).bytes()
+            }
+            // What was bad at a major cycle may be so at the next.
+            (TAKEN, Some(record)) if record.major.is_some() && random.one_in(3) => {
+                at_next_major(record, &mut random).bytes()
+            }
             _ => next_piece(&monitor.hall, &mut random),
         };
     }
@@ -260,11 +267,15 @@ fn flag(random: &mut Random) -> u8 {
     random.pick(&[0, 0, 0, 0, 0, 1, 1, 1, 255, any])
 }
 
-/// A record for the hall, now and then with junk before it, or broken off.
+/// A record for the hall, now and then with junk before it, with a reserved drop bit, or broken off.
 fn next_piece(hall: &Hall, random: &mut Random) -> Vec<u8> {
     let length = random.index(30);
     let mut piece = if random.one_in(8) { random.bytes(length) } else { Vec::new() };
-    piece.extend(record(hall, random).bytes());
+    let mut record = record(hall, random);
+    if random.one_in(16) {
+        reserve_a_drop_bit(&mut record, random);
+    }
+    piece.extend(record.bytes());
     if random.one_in(25) {
         piece.truncate(random.index(piece.len()));
     }
@@ -273,10 +284,14 @@ fn next_piece(hall: &Hall, random: &mut Random) -> Vec<u8> {
 
 /// A claim and a store. Bytes that are held are taken from the front of the piece.
 fn held(piece: &mut Vec<u8>, random: &mut Random, cases: &mut Cases) -> (u16, [u8; STORE_LENGTH]) {
-    let mut store: [u8; STORE_LENGTH] = random.junk(STORE_LENGTH).try_into().expect("615 bytes");
+    let mut store: [u8; STORE_LENGTH] = random.junk(STORE_LENGTH).try_into().expect("619 bytes");
     match random.below(6) {
         0 | 1 => {
-            let length = random.index(1 + piece.len().min(MOST_HELD));
+            let most = piece.len().min(MOST_HELD);
+            let any = random.index(1 + most);
+            // Of a major record often all that can be held, or a few bytes less.
+            let few_less = MOST_HELD - 1 - random.index(3);
+            let length = random.pick(&[any, any, most, few_less, few_less, few_less]).min(most);
             store[..length].copy_from_slice(&piece[..length]);
             piece.drain(..length);
             cases.with_held_bytes += 1;
@@ -285,8 +300,8 @@ fn held(piece: &mut Vec<u8>, random: &mut Random, cases: &mut Cases) -> (u16, [u
         2 => {
             let length = piece.len().min(STORE_LENGTH);
             store[..length].copy_from_slice(&piece[..length]);
-            cases.with_a_claim_above_614 += 1;
-            (random.pick(&[615, 616, 40_000, 65_535]), store)
+            cases.with_a_claim_above_618 += 1;
+            (random.pick(&[619, 620, 40_000, 65_535]), store)
         }
         _ => (0, store),
     }
@@ -318,7 +333,7 @@ fn record(hall: &Hall, random: &mut Random) -> Record {
         let mut words = known(string);
         record.strings[s] = string_words(string, &mut words, random);
         if let Some(major) = &mut record.major {
-            major.strings[s] = string_major(&mut words, random);
+            major.strings[s] = string_major(string, &mut words, random);
         }
     }
     if let Some(major) = &mut record.major {
@@ -339,6 +354,15 @@ fn one_way(mut record: Record, hall: &Hall, random: &mut Random) -> Record {
     let strings = record.major.iter_mut().flat_map(|major| &mut major.strings);
     for (words, mapped) in strings.zip(mapped(hall)) {
         name_one_way(words, mapped, random);
+    }
+    record
+}
+
+/// The record for the next major cycle, with other drops.
+fn at_next_major(mut record: Record, random: &mut Random) -> Record {
+    record.wire = record.wire.wrapping_add(25);
+    for string in record.major.iter_mut().flat_map(|major| &mut major.strings) {
+        string.drops = if random.one_in(2) { 0 } else { drops(random) };
     }
     record
 }
@@ -369,13 +393,17 @@ fn string_words(string: &JetString, words: &mut Words, random: &mut Random) -> S
     }
 }
 
-fn string_major(words: &mut Words, random: &mut Random) -> StringMajor {
+fn string_major(string: &JetString, words: &mut Words, random: &mut Random) -> StringMajor {
     // The mapped jets are the first of the known words.
     let mapped = words.0[0];
     let telling = telling_leaks(mapped, random);
     let leaking = if random.one_in(4) { random.pick(&telling) } else { words.next(random) };
     let temperatures = temperatures(leaking, random);
-    let mut major = StringMajor { temperatures, inhibit: words.next(random), re_enable: words.next(random) };
+    let (inhibit, re_enable) = (words.next(random), words.next(random));
+    let set = (string.close % 16) as u8;
+    let asked = drops(random);
+    let drops = random.pick(&[0, set, asked, asked]);
+    let mut major = StringMajor { temperatures, inhibit, re_enable, drops };
     name_one_way(&mut major, mapped, random);
     major
 }

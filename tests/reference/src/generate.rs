@@ -5,7 +5,9 @@ use crate::feed::{masks_bytes, MASKS_LENGTH};
 use crate::hall::Masks;
 use crate::random::Random;
 use crate::record::{sum, Record, MAJOR, MAJOR_LENGTH, MARK, MINOR, MINOR_LENGTH};
-use crate::world::{masks, name_both_ways, telling_leaks, Chances, World};
+use crate::world::{
+    drops, masks, name_both_ways, one_jet_of_each, reserve_a_drop_bit, telling_leaks, Chances, World,
+};
 
 #[derive(Clone, Debug)]
 pub struct Night {
@@ -29,12 +31,16 @@ pub fn input(seed: u64, size: usize) -> (Vec<u8>, u64) {
     let begins_late = random.one_in(3);
     let begins_with_leaks = random.one_in(2);
     let begins_both_ways = random.one_in(4);
+    let begins_with_drops = random.one_in(2);
     let mut night = Night::after(0, &masks, random);
     if begins_with_leaks {
         bytes.extend(night.leaks());
     }
     if begins_both_ways {
         bytes.extend(night.third_leak_both_ways());
+    }
+    if begins_with_drops {
+        bytes.extend(night.drops(&masks));
     }
     if begins_late {
         bytes.extend(night.travel());
@@ -83,6 +89,40 @@ impl Night {
         }
         self.world.leak([0; 4]);
         feed
+    }
+
+    /// Majors of a hall in which one jet of each manifold leaks in most of them, so that manifolds close and are
+    /// dropped, some under a path fault. Some are spoilt first, and then sent again.
+    fn drops(&mut self, masks: &Masks) -> Vec<u8> {
+        let mut feed = Vec::new();
+        let jets = masks.map(one_jet_of_each);
+        for turn in 0..16 {
+            let most = |random: &mut Random| if turn < 3 { u32::MAX } else { random.word() | random.word() };
+            self.world.leak(jets.map(|jets| jets & most(&mut self.random)));
+            let missed = if turn < 3 { 0 } else { self.random.pick(&[0, 0, 0, 0, 0, 0, 0, 1]) };
+            let cycle = self.cycle + 25 * (1 + missed) - self.cycle % 25;
+            let mut record = self.record(cycle);
+            for (s, string) in record.major.iter_mut().flat_map(|major| &mut major.strings).enumerate() {
+                string.drops = if turn < 3 || self.random.one_in(2) { 0 } else { drops(&mut self.random) };
+                record.path |= u8::from(turn > 2 && self.random.one_in(4)) << s;
+            }
+            feed.extend(self.before_drops(&record).iter().flat_map(Record::bytes));
+            feed.extend(record.bytes());
+            self.good_is_sent(cycle, record.bytes());
+        }
+        self.world.leak([0; 4]);
+        feed
+    }
+
+    /// The record with a reserved drop bit, or with jets named both ways, or mostly none.
+    fn before_drops(&mut self, record: &Record) -> Vec<Record> {
+        let mut spoilt = record.clone();
+        match self.random.below(6) {
+            0 | 1 => reserve_a_drop_bit(&mut spoilt, &mut self.random),
+            2 => name_both_ways(&mut spoilt, self.world.mapped, &mut self.random),
+            _ => return Vec::new(),
+        }
+        vec![spoilt]
     }
 
     /// Goes on in long jumps to just before the wire cycle wraps.
@@ -234,7 +274,8 @@ impl Night {
     fn forbid(&mut self, record: &mut Record) {
         let reserved = 1 << (4 + self.random.below(4));
         let over = self.random.pick(&[1_001, 1_024, 0x8000, 0xFFFF]);
-        match (&mut record.major, self.random.below(3)) {
+        match (&mut record.major, self.random.below(4)) {
+            (Some(_), 3) => reserve_a_drop_bit(record, &mut self.random),
             (Some(major), 0) => major.quantities[self.random.index(3)][self.random.index(2)] = over,
             (_, 1) => record.path |= reserved,
             _ => record.strings[self.random.index(4)].valves |= reserved,

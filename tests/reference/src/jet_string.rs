@@ -63,6 +63,7 @@ impl JetString {
         self.manifolds(words);
         if let Some(major) = major {
             self.requests(major);
+            self.drops(major);
             let bad: Vec<bool> = self.jets.iter().map(|jet| is_bad(jet, words, major)).collect();
             self.recheck(&bad);
             self.on_failure(&bad);
@@ -164,7 +165,15 @@ impl JetString {
         }
     }
 
-    /// Step 6. The close bit stays.
+    /// Step 5, close bits (document 02, order 6): "bit i asks to drop manifold i's close bit". Nothing else changes,
+    /// and step 6 may set the bit again.
+    fn drops(&mut self, major: &StringMajor) {
+        for manifold in (0..4).filter(|manifold| bit(major.drops.into(), *manifold)) {
+            self.close &= !(1 << manifold);
+        }
+    }
+
+    /// Step 6. The close bit stays until it is dropped.
     fn recheck(&mut self, bad: &[bool]) {
         for manifold in 0..4 {
             for (jet, bad) in self.jets.iter().zip(bad) {

@@ -18,7 +18,10 @@ pub mod writer;
 
 pub mod both_ways_cases;
 pub mod cases;
+pub mod claim_cases;
+pub mod counted;
 pub mod dispatch;
+pub mod drop_cases;
 pub mod foreign;
 pub mod generate;
 pub mod leak_cases;

@@ -4,8 +4,8 @@ use crate::hall::{overlap, Hall, Masks, MAP, NOTHING_SETTLED, OUTBOX_SHORT, TAKE
 use crate::reader::look;
 use crate::report::{Report, REPORT_LENGTH};
 
-pub const STORE_LENGTH: usize = 615;
-pub const MOST_HELD: usize = 614;
+pub const STORE_LENGTH: usize = 619;
+pub const MOST_HELD: usize = 618;
 
 #[derive(Clone, Debug, PartialEq, Eq)]
 pub struct Monitor {
@@ -52,7 +52,7 @@ impl Monitor {
         (answer, used)
     }
 
-    /// A claim of more than 614 bytes is read as holding none.
+    /// A claim of more than 618 bytes is read as holding none.
     pub fn take_held(&self) -> Vec<u8> {
         let held = usize::from(self.held);
         self.store[..if held > MOST_HELD { 0 } else { held }].to_vec()

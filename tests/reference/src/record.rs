@@ -4,7 +4,7 @@ pub const MARK: u8 = 0x52;
 pub const MINOR: u8 = 0x4D;
 pub const MAJOR: u8 = 0x4A;
 pub const MINOR_LENGTH: usize = 59;
-pub const MAJOR_LENGTH: usize = 615;
+pub const MAJOR_LENGTH: usize = 619;
 
 #[derive(Clone, Debug, PartialEq, Eq)]
 pub struct Record {
@@ -36,13 +36,15 @@ pub struct StringMajor {
     pub temperatures: [[u16; 2]; 32],
     pub inhibit: u32,
     pub re_enable: u32,
+    /// Bit i: the close bit of manifold i is to be dropped. Bits 4 to 7 are reserved.
+    pub drops: u8,
 }
 
 impl Record {
     /// A quiet record of the right kind for cycle `n`: valves open, temperature words 64.
     pub fn quiet(n: u64) -> Record {
         let string = StringWords { commanded: 0, pressure: 0, driver: 0, valves: 0x0F };
-        let string_major = StringMajor { temperatures: [[64; 2]; 32], inhibit: 0, re_enable: 0 };
+        let string_major = StringMajor { temperatures: [[64; 2]; 32], inhibit: 0, re_enable: 0, drops: 0 };
         let major = Major { strings: [string_major; 4], quantities: [[0; 2]; 3] };
         let major = n.is_multiple_of(25).then_some(major);
         Record { wire: n as u16, path: 0, strings: [string; 4], major }
@@ -74,6 +76,7 @@ impl Record {
                 bytes.extend(string.inhibit.to_be_bytes());
                 bytes.extend(string.re_enable.to_be_bytes());
             }
+            bytes.extend(major.strings.iter().map(|string| string.drops));
             for quantity in major.quantities.iter().flatten() {
                 bytes.extend(quantity.to_be_bytes());
             }
@@ -105,6 +108,9 @@ impl Record {
                 string.inhibit = number(4);
                 string.re_enable = number(4);
             }
+            for string in &mut major.strings {
+                string.drops = number(1) as u8;
+            }
             for quantity in major.quantities.iter_mut().flatten() {
                 *quantity = number(2) as u16;
             }
@@ -121,9 +127,12 @@ impl Record {
         (right_sum && !record.has_reserved_bit() && !record.has_large_quantity()).then_some(record)
     }
 
-    /// One of bits 4 to 7 of the path byte or of a valve byte is set.
+    /// One of bits 4 to 7 of the path byte, of a valve byte or of a drop byte is set.
     pub fn has_reserved_bit(&self) -> bool {
-        self.path >= 16 || self.strings.iter().any(|string| string.valves >= 16)
+        let mut drops = self.major.iter().flat_map(|major| &major.strings).map(|string| string.drops);
+        self.path >= 16
+            || self.strings.iter().any(|string| string.valves >= 16)
+            || drops.any(|drops| drops >= 16)
     }
 
     /// A quantity is above 1,000, which only a major record can have.

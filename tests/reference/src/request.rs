@@ -2,7 +2,7 @@
 //!
 //! A request has its kind (1; 0 is a minor record, 1 a major), the outbox's length (2, at most
 //! 1,024), the byte that fills the outbox beforehand (1), and the record's values as they stand
-//! between mark and sum (55 or 611). An input is any number of requests, one after the other. The
+//! between mark and sum (55 or 615). An input is any number of requests, one after the other. The
 //! program says for each the writer's answer (1) and the whole outbox. Numbers have the high byte
 //! first. The program stops silently at the end of its input, at a request that is incomplete, at
 //! another kind, or at an outbox longer than 1,024.

@@ -14,10 +14,10 @@ impl Default for Cases {
 }
 
 /// "Alone" is without any other fault. Minors stand before majors, but where only majors count.
-const CASES: [cases::Named<Request>; 14] = [
+const CASES: [cases::Named<Request>; 15] = [
     ("answers 0, 1, 3; 0, 1, 2, 3", 7, answer),
     ("faults together: reserved bit +1, short outbox +2; quantity +2, short outbox +4", 12, faults),
-    ("each reserved bit alone, path and valves of each string", 40, reserved_bit_alone),
+    ("each reserved bit alone, path, valves and drops of each string", 20 + 36, reserved_bit_alone),
     ("several reserved bits", 2, several_reserved_bits),
     ("each quantity 1,000, written", 6, full_quantities),
     ("each quantity 1,001 alone", 6, |request| large_quantity_alone(request, 1_001)),
@@ -28,6 +28,7 @@ const CASES: [cases::Named<Request>; 14] = [
     ("written: wire cycle a multiple of 25 or not", 4, wire_cycle),
     ("written: temperature words of 0 to 63, to 32,767, to 65,535", 3, temperatures),
     ("written: jets named neither way, one way, both ways", 3, named),
+    ("written: a string that drops no manifold, some, all, and the bit of each alone", 3 + 16, drops),
     ("written: a major's bytes come to 65,535 at most, to more", 2, size_of_sum),
 ];
 
@@ -39,12 +40,13 @@ fn is_written(request: &Request) -> bool {
     request.said()[0] == WRITTEN
 }
 
-/// Bits 4 to 7 of the path byte, then of each valve byte, numbered on.
+/// Bits 4 to 7 of the path byte, then of each valve byte, then of each drop byte, numbered on.
 fn reserved_bits(request: &Request) -> Vec<usize> {
     let valves = request.record.strings.map(|string| string.valves);
-    let bytes = [&[request.record.path], &valves[..]].concat();
+    let mut bytes = [&[request.record.path], &valves[..]].concat();
+    bytes.extend(request.record.major.iter().flat_map(|major| major.strings.map(|string| string.drops)));
     let is_set = |number: &usize| (bytes[number / 4] >> (4 + number % 4)) % 2 == 1;
-    (0..20).filter(is_set).collect()
+    (0..4 * bytes.len()).filter(is_set).collect()
 }
 
 /// What a major record says of the strings, if it is written.
@@ -158,6 +160,17 @@ fn named(request: &Request) -> Vec<usize> {
     let one = any(|string| string.inhibit ^ string.re_enable);
     let both = any(|string| string.inhibit & string.re_enable);
     [only(neither, 0), only(one, 1), only(both, 2)].concat()
+}
+
+/// The single bits string by string.
+fn drops(request: &Request) -> Vec<usize> {
+    let drops = written_strings(request).into_iter().map(|string| string.drops).enumerate();
+    let variants = |(s, drops): (usize, u8)| match drops {
+        0 => vec![0],
+        0x0F => vec![2],
+        _ => [vec![1], only(drops.is_power_of_two(), 3 + 4 * s + drops.trailing_zeros() as usize)].concat(),
+    };
+    drops.flat_map(variants).collect()
 }
 
 fn size_of_sum(request: &Request) -> Vec<usize> {

@@ -69,6 +69,9 @@ fn allowed(is_major: bool, random: &mut Random) -> Record {
     for string in &mut record.strings {
         string.valves %= 16;
     }
+    for string in record.major.iter_mut().flat_map(|major| &mut major.strings) {
+        string.drops %= 16;
+    }
     for quantity in record.major.iter_mut().flat_map(|major| &mut major.quantities).flatten() {
         let any = random.below(1_001) as u16;
         *quantity = random.pick(&[0, 999, 1_000, any, any]);
@@ -80,9 +83,11 @@ fn allowed(is_major: bool, random: &mut Random) -> Record {
 fn set_reserved_bits(record: &mut Record, random: &mut Random) {
     for _ in 0..random.pick(&[1, 1, 1, 2, 20]) {
         let bit = 1 << (4 + random.below(4));
-        match random.index(5) {
-            0 => record.path |= bit,
-            byte => record.strings[byte - 1].valves |= bit,
+        let s = random.index(4);
+        match (&mut record.major, random.below(9)) {
+            (_, 0) => record.path |= bit,
+            (Some(major), 1..=4) => major.strings[s].drops |= bit,
+            _ => record.strings[s].valves |= bit,
         }
     }
 }

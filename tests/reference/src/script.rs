@@ -1,12 +1,12 @@
 //! Scripts for a program that makes single calls: any state handed in, then pieces and outboxes.
 //!
-//! A script has its kind (1), a hall (420, see `state`), the claimed count (2), the store (615),
+//! A script has its kind (1), a hall (420, see `state`), the claimed count (2), the store (619),
 //! the number of calls (2), then for each call the piece's length (2, at most 4,096), the piece,
 //! the outbox's length (1) and its contents. By kind 0 the calls begin with what the start over the
 //! hall's masks gives, but for the hall's n; by any other the whole hall is handed in as it stands.
 //! An input is any number of scripts, one after the other. The program says for each the start's
 //! answer to the hall's masks (1), whatever the kind, then for each call: answer (1), bytes used
-//! (2), the outbox, the hall (420), the count (2) and the whole store (615), the places behind the
+//! (2), the outbox, the hall (420), the count (2) and the whole store (619), the places behind the
 //! held bytes included. Numbers have the high byte first. The program stops silently at the end of
 //! its input, at a script that is incomplete, or at a piece that is longer than 4,096.
 
@@ -62,7 +62,7 @@ fn started(state: &[u8; STATE_LENGTH]) -> (u8, Monitor) {
     let (hall, rest) = rest.split_first_chunk().expect("420 bytes");
     let (held, store) = rest.split_first_chunk().expect("2 bytes");
     let held = u16::from_be_bytes(*held);
-    let store = store.try_into().expect("615 bytes");
+    let store = store.try_into().expect("619 bytes");
     let hall = hall_from(hall);
     let (answer, mut monitor) = Monitor::start(masks_of(&hall));
     if *kind == FROM_START {
@@ -160,11 +160,11 @@ pub fn call(piece: &[u8], outbox: &[u8]) -> Vec<u8> {
 
 /// A claimed count, a store, and where in the feed the caller goes on.
 fn handed_in(feed: &[u8], random: &mut Random) -> (u16, [u8; STORE_LENGTH], usize) {
-    let some = random.below(615) as u16;
-    let over = 615 + random.below(65_536 - 615) as u16;
-    let held = random.pick(&[0, 1, 58, 59, 60, 613, 614, 615, 65_535, some, some, over]);
+    let some = random.index(MOST_HELD + 1);
+    let over = STORE_LENGTH + random.index(65_536 - STORE_LENGTH);
+    let held = random.pick(&[0, 1, 58, 59, 60, 615, 617, 618, 619, 65_535, some, some, over]) as u16;
     let real = if usize::from(held) > MOST_HELD { 0 } else { usize::from(held) };
-    let mut store: [u8; STORE_LENGTH] = feed[..STORE_LENGTH].try_into().expect("615 bytes");
+    let mut store: [u8; STORE_LENGTH] = feed[..STORE_LENGTH].try_into().expect("619 bytes");
     match random.below(5) {
         // The front of the feed; behind the held bytes more of it, junk or zeros.
         0 => {}
@@ -183,7 +183,7 @@ fn handed_in(feed: &[u8], random: &mut Random) -> (u16, [u8; STORE_LENGTH], usiz
 
 fn piece(feed: &[u8], random: &mut Random) -> Vec<u8> {
     let any = random.index(LONGEST_PIECE + 1);
-    let length = random.pick(&[0, 1, 1, 2, 58, 59, 60, 118, 614, 615, 616, 700, any, LONGEST_PIECE]);
+    let length = random.pick(&[0, 1, 1, 2, 58, 59, 60, 118, 615, 618, 619, 620, 700, any, LONGEST_PIECE]);
     if random.one_in(40) {
         return random.junk(length);
     }

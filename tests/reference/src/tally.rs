@@ -15,6 +15,8 @@ pub struct Tally {
     pub wire_wraps: u64,
     pub feeds_with_failed_jet: u64,
     pub feeds_with_close_bit: u64,
+    /// Reports in which a close bit is gone that the one before had.
+    pub drops_seen: u64,
     pub feeds_with_imbalance: u64,
 }
 
@@ -34,6 +36,8 @@ impl Tally {
         self.damaged_spots += damaged;
         let wraps = |pair: &&[Report]| pair[0].n / 65_536 != pair[1].n / 65_536;
         self.wire_wraps += reports.windows(2).filter(wraps).count() as u64;
+        let drops = |pair: &&[Report]| (0..4).any(|s| pair[0].close[s] & !pair[1].close[s] != 0);
+        self.drops_seen += reports.windows(2).filter(drops).count() as u64;
         let any = |test: fn(&Report) -> bool| u64::from(reports.iter().any(test));
         self.feeds_with_failed_jet += any(|report| report.fail != [0; 4]);
         self.feeds_with_close_bit += any(|report| report.close != [0; 4]);

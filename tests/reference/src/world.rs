@@ -22,6 +22,8 @@ pub struct Chances {
     valves: u64,
     paths: u64,
     requests: u64,
+    /// A string of a major record asks for close bits to be dropped.
+    drops: u64,
     /// A major record names jets both ways.
     pub both_ways: u64,
     /// Its cycle is then sent again without that.
@@ -40,6 +42,7 @@ impl Chances {
             valves: random.pick(&[0, 60, 400]),
             paths: random.pick(&[0, 100, 1_000]),
             requests: random.pick(&[0, 2, 6]),
+            drops: random.pick(&[0, 0, 2, 6, 20]),
             both_ways: random.pick(&[0, 0, 0, 8, 3]),
             sent_again: random.pick(&[0, 1, 2]),
             noise: random.pick(&[0, 0, 5, 50]),
@@ -128,6 +131,9 @@ impl World {
                 words.re_enable = both | random.jet() | random.word() & random.word() & random.word();
                 name_one_way(words, self.mapped[s], random);
             }
+            if random.one_in(chances.drops) {
+                words.drops = drops(random);
+            }
         }
         major.quantities = [(); 3].map(|_| quantities(random));
     }
@@ -147,6 +153,20 @@ impl StringWorld {
                 self.leaking &= left;
             }
         }
+    }
+}
+
+/// Asks for one manifold's close bit to be dropped, or for those of any, often of several or all.
+pub fn drops(random: &mut Random) -> u8 {
+    let one = 1 << random.below(4);
+    let any = random.below(16) as u8;
+    random.pick(&[one, any, any, 0x0F])
+}
+
+/// One of bits 4 to 7 of a drop byte, by which a major record is lost though its sum is right.
+pub fn reserve_a_drop_bit(record: &mut Record, random: &mut Random) {
+    if let Some(major) = &mut record.major {
+        major.strings[random.index(4)].drops |= 0x10 << random.below(4);
     }
 }
 
@@ -188,6 +208,11 @@ pub fn telling_leaks(mapped: u32, random: &mut Random) -> [u32; 4] {
     };
     let few = (0..4).fold(0, |few, _| few | random.pick(&jets));
     [others, *lowest, *highest, few]
+}
+
+/// The lowest jet of each manifold that has any.
+pub fn one_jet_of_each(masks: [u32; 4]) -> u32 {
+    masks.iter().filter_map(|mask| jets(*mask).first().copied()).sum()
 }
 
 /// The jets of a word, each as its bit, lowest first.

@@ -179,7 +179,7 @@ fn a_short_outbox_comes_before_it() {
     assert_eq!(post.monitor.call(&record, &mut short), (OUTBOX_SHORT, 0));
     assert_eq!((post.monitor.clone(), short), (before, [0xEE; 33]));
     let mut enough = [0xEE; 36];
-    assert_eq!(post.monitor.call(&record, &mut enough), (BOTH_WAYS, 615));
+    assert_eq!(post.monitor.call(&record, &mut enough), (BOTH_WAYS, 619));
     assert_eq!(enough[34..], [0xEE; 2]);
 }
 
@@ -187,15 +187,15 @@ fn a_short_outbox_comes_before_it() {
 fn the_record_is_gone_and_what_it_hides_is_not_seen() {
     let mut hiding = both_ways(Record::quiet(25), 0, 1).bytes();
     hiding[57..57 + 59].copy_from_slice(&Record::quiet(1).bytes());
-    hiding.truncate(613);
+    hiding.truncate(617);
     hiding.extend(sum(&hiding).to_be_bytes());
     let (_, mut monitor) = Monitor::start(MAP);
     let mut outbox = [0; 34];
     assert_eq!(monitor.call(&hiding[..600], &mut outbox), (NOTHING_SETTLED, 600));
     let rest = [&hiding[600..], &Record::quiet(2).bytes()].concat();
-    assert_eq!(monitor.call(&rest, &mut outbox), (BOTH_WAYS, 15));
+    assert_eq!(monitor.call(&rest, &mut outbox), (BOTH_WAYS, 19));
     assert_eq!((monitor.held, monitor.store), (0, [0; STORE_LENGTH]));
-    assert_eq!(monitor.call(&rest[15..], &mut outbox), (TAKEN, 59));
+    assert_eq!(monitor.call(&rest[19..], &mut outbox), (TAKEN, 59));
     assert_eq!(Report::read(&outbox).n, 2);
 }
 
@@ -208,7 +208,7 @@ fn no_bit_of_any_hall_changes() {
         bytes[..4].copy_from_slice(&n.to_be_bytes());
         let mut hall = hall_from(&bytes);
         let before = hall.clone();
-        let mut record = Record::of_values(true, &random.bytes(611));
+        let mut record = Record::of_values(true, &random.bytes(615));
         record.wire = (n + 1) as u16;
         // Four random words of a string leave a jet out now and then.
         let s = number % 4;

@@ -156,7 +156,7 @@ fn records_that_are_taken() {
 fn a_record_inside() {
     let mut hiding = named(25).bytes();
     hiding[57..57 + 59].copy_from_slice(&Record::quiet(1).bytes());
-    hiding.truncate(613);
+    hiding.truncate(617);
     hiding.extend(sum(&hiding).to_be_bytes());
     let cases = met_in_feed(&hiding);
     assert!(cases.contains(&"7, and a good record stands inside: [1]".into()), "{cases:?}");

@@ -3,11 +3,10 @@
 mod common;
 
 use common::{driver_on, with, with_major, MAP};
-use reference::both_ways_cases::BothWaysCases;
+use reference::counted::Counted;
 use reference::foreign::{script, Cases};
 use reference::hall::{Hall, TAKEN};
 use reference::jet::{bit, Jet};
-use reference::leak_cases::LeakCases;
 use reference::random::Random;
 use reference::record::Record;
 use reference::report::Report;
@@ -129,9 +128,9 @@ fn a_hall_is_read_as_it_was_written() {
 
 #[test]
 fn random_halls_meet_every_case() {
-    let mut cases = Cases::default();
+    let (mut cases, mut counted) = (Cases::default(), Counted::of_halls());
     for seed in 0..400 {
-        script(seed, &mut cases, &mut LeakCases::default(), &mut BothWaysCases::of_halls());
+        script(seed, &mut cases, &mut counted);
     }
     let said = format!("{cases:?}").replace(['[', ']', '}'], ",");
     assert!(!said.contains(" 0,") && !said.contains(",0,"), "{said}");

@@ -1,4 +1,4 @@
-//! The nights to try of document 01, in its order, as order 3 of document 02 amends them.
+//! The nights to try of document 01, in its order, as orders 3 and 6 of document 02 amend them.
 
 mod common;
 
@@ -167,13 +167,13 @@ fn false_major_gives_up_the_three_good_minors_inside() {
         piece.resize(200 * n as usize - 150, 0);
         piece.extend(Record::quiet(n).bytes());
     }
-    piece.resize(615, 0);
+    piece.resize(619, 0);
 
     let (_, mut monitor) = Monitor::start(MAP);
     let mut outbox = [0; 34];
-    assert_eq!(monitor.call(&piece[..614], &mut outbox), (NOTHING_SETTLED, 614));
-    assert_eq!(monitor.held, 614);
-    for (piece, n) in [(&piece[614..], 1), (&[], 2), (&[], 3)] {
+    assert_eq!(monitor.call(&piece[..618], &mut outbox), (NOTHING_SETTLED, 618));
+    assert_eq!(monitor.held, 618);
+    for (piece, n) in [(&piece[618..], 1), (&[], 2), (&[], 3)] {
         assert_eq!(monitor.call(piece, &mut outbox), (TAKEN, piece.len()));
         assert_eq!(Report::read(&outbox).n, n);
     }

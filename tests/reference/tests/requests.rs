@@ -20,7 +20,7 @@ fn written(record: Record, behind: Vec<u8>) -> Vec<u8> {
 
 #[test]
 fn the_answer_and_the_whole_outbox_are_said() {
-    let input = [quiet(0, [0, 61], 0xEE), quiet(1, [0, 60], 0xAB), quiet(1, [2, 0x68], 7)].concat();
+    let input = [quiet(0, [0, 61], 0xEE), quiet(1, [0, 60], 0xAB), quiet(1, [2, 0x6C], 7)].concat();
     let minor = written(Record::quiet(1), vec![0xEE; 2]);
     let short = [vec![3], vec![0xAB; 60]].concat();
     let major = written(Record::quiet(25), vec![7]);
@@ -73,7 +73,7 @@ fn in_broken_inputs_bytes_are_left_that_get_nothing() {
     for (name, input) in broken_inputs().iter().skip(1) {
         let mut rest = &input[..];
         for _ in play(input) {
-            rest = &rest[if rest[0] == 0 { 59 } else { 615 }..];
+            rest = &rest[if rest[0] == 0 { 59 } else { 619 }..];
         }
         assert!(!rest.is_empty(), "{name}");
     }

@@ -20,9 +20,10 @@ fn records_with_reserved_bits_or_large_quantities_are_dropped() {
     let mut path = Record::quiet(1);
     path.path = 0x10;
     let valves = with(1, 3, |words| words.valves = 0x8F);
+    let drops = with_major(25, 3, |major| major.drops = 0x80);
     let mut quantity = Record::quiet(25);
     quantity.major.as_mut().unwrap().quantities[2][1] = 1_001;
-    for bytes in [path, valves, quantity].map(|record| record.bytes()) {
+    for bytes in [path, valves, drops, quantity].map(|record| record.bytes()) {
         let (_, mut monitor) = Monitor::start(MAP);
         assert_eq!(monitor.call(&bytes, &mut [0; 34]), (NOTHING_SETTLED, bytes.len()));
         assert_eq!(monitor.held, 0);
@@ -67,8 +68,8 @@ fn re_enabled_jet_does_not_fail_until_its_valve_closes() {
 }
 
 #[test]
-fn claim_above_614_holds_nothing_but_answer_5_gives_it_back() {
-    for claim in [615, 65_535] {
+fn claim_above_618_holds_nothing_but_answer_5_gives_it_back() {
+    for claim in [619, 65_535] {
         let (_, mut monitor) = Monitor::start(MAP);
         monitor.hand_in(7, claim, [0x52; STORE_LENGTH]);
         let before = monitor.clone();
@@ -87,7 +88,7 @@ fn bytes_behind_a_settled_record_wait_and_those_behind_the_held_ones_go() {
     monitor.hand_in(0, 70, store);
     assert_eq!(monitor.call(&[1, 2, 3], &mut [0; 34]), (TAKEN, 0));
     assert_eq!(monitor.held, 11);
-    assert_eq!(monitor.store[..], [vec![0xEE; 11], vec![0; 604]].concat());
+    assert_eq!(monitor.store[..], [vec![0xEE; 11], vec![0; 608]].concat());
     assert_eq!(monitor.call(&[1, 2, 3], &mut [0; 34]), (NOTHING_SETTLED, 3));
     assert_eq!(monitor.held, 0);
 }

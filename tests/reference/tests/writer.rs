@@ -43,7 +43,7 @@ fn both_kinds() -> [Record; 2] {
 /// Seeded records that are written, many of each kind.
 fn written_records() -> Vec<Record> {
     let records = (0..2_000).map(|seed| request(seed).record);
-    let written = records.filter(|record| written(record, 615).0 == WRITTEN).collect::<Vec<_>>();
+    let written = records.filter(|record| written(record, 619).0 == WRITTEN).collect::<Vec<_>>();
     let majors = written.iter().filter(|record| record.major.is_some()).count();
     assert!(majors > 200 && written.len() - majors > 200, "{majors} of {}", written.len());
     written
@@ -95,11 +95,12 @@ fn each_value_stands_in_its_place() {
             }
             assert_eq!(word(569 + 8 * s), string.inhibit);
             assert_eq!(word(573 + 8 * s), string.re_enable);
+            assert_eq!(bytes[601 + s], string.drops);
         }
         for (m, pair) in major.quantities.iter().enumerate() {
-            assert_eq!([half(601 + 4 * m), half(603 + 4 * m)], *pair);
+            assert_eq!([half(605 + 4 * m), half(607 + 4 * m)], *pair);
         }
-        assert_eq!(half(613), added(&bytes[..613]));
+        assert_eq!(half(617), added(&bytes[..617]));
     }
 }
 
@@ -107,9 +108,22 @@ fn each_value_stands_in_its_place() {
 fn temperature_words_of_each_range_are_written_as_they_are() {
     for word in [0, 63, 64, 32_767, 32_768, 65_535_u16] {
         let record = with_major(25, 3, |major| major.temperatures[31] = [word, !word]);
-        let (answer, outbox) = written(&record, 615);
+        let (answer, outbox) = written(&record, 619);
         assert_eq!((answer, &outbox[565..567]), (WRITTEN, &word.to_be_bytes()[..]));
         assert_eq!(outbox[567..569], (!word).to_be_bytes());
+    }
+}
+
+#[test]
+fn drop_bytes_are_written_behind_the_re_enable_words_of_all_strings() {
+    for drops in 0..=0x0F {
+        for s in 0..4 {
+            let record = with_major(25, s, |major| (major.re_enable, major.drops) = (u32::MAX, drops));
+            let (answer, outbox) = written(&record, 619);
+            let mut wanted = [0; 4];
+            wanted[s] = drops;
+            assert_eq!((answer, &outbox[601..605]), (WRITTEN, &wanted[..]), "string {s}");
+        }
     }
 }
 
@@ -120,7 +134,7 @@ fn a_sum_above_65535_loses_what_is_beyond() {
         string.temperatures = [[0xFFFF; 2]; 32];
     }
     // 82 + 74 + 25 + 4 * 15 + 512 * 255 is 130,801, and 65,536 less is 65,265.
-    assert_eq!(written(&record, 615).1[613..], 65_265_u16.to_be_bytes());
+    assert_eq!(written(&record, 619).1[617..], 65_265_u16.to_be_bytes());
 }
 
 #[test]
@@ -134,6 +148,7 @@ fn each_reserved_bit_gets_1() {
                 let mut valves = record.clone();
                 valves.strings[s].valves |= 1 << bit;
                 refused(&valves, 700, RESERVED_BIT);
+                refused(&with_major(25, s, |major| major.drops = 1 << bit), 700, RESERVED_BIT);
             }
         }
     }
@@ -146,8 +161,8 @@ fn each_quantity_above_1000_gets_2() {
             refused(&with_quantity(Record::quiet(25), number, quantity), 700, LARGE_QUANTITY);
         }
         let full = with_quantity(Record::quiet(25), number, 1_000);
-        let (answer, outbox) = written(&full, 615);
-        assert_eq!((answer, &outbox[601 + 2 * number..][..2]), (WRITTEN, &[0x03, 0xE8][..]));
+        let (answer, outbox) = written(&full, 619);
+        assert_eq!((answer, &outbox[605 + 2 * number..][..2]), (WRITTEN, &[0x03, 0xE8][..]));
     }
 }
 
@@ -178,13 +193,19 @@ fn of_several_faults_the_first_in_order_is_named() {
         record.strings[3].valves |= 0x80;
         record
     };
+    let reserved_drop = |mut record: Record| {
+        record.major.as_mut().expect("a major record").strings[0].drops |= 0x10;
+        record
+    };
     let large = |record| with_quantity(record, 5, 1_001);
     let [minor, major] = both_kinds();
     refused(&reserved(minor), 58, RESERVED_BIT);
-    refused(&reserved(large(major.clone())), 614, RESERVED_BIT);
-    refused(&reserved(large(major.clone())), 615, RESERVED_BIT);
-    refused(&reserved(major.clone()), 614, RESERVED_BIT);
-    refused(&large(major.clone()), 614, LARGE_QUANTITY);
+    refused(&reserved(large(major.clone())), 618, RESERVED_BIT);
+    refused(&reserved(large(major.clone())), 619, RESERVED_BIT);
+    refused(&reserved(major.clone()), 618, RESERVED_BIT);
+    refused(&reserved_drop(large(major.clone())), 618, RESERVED_BIT);
+    refused(&reserved_drop(major.clone()), 0, RESERVED_BIT);
+    refused(&large(major.clone()), 618, LARGE_QUANTITY);
     refused(&large(major), 0, LARGE_QUANTITY);
 }
 
@@ -227,12 +248,12 @@ fn what_a_settled_record_held_is_written_as_its_bytes() {
 
 /// Random bytes that are a good record.
 fn settled_bytes(is_major: bool, random: &mut Random) -> Vec<u8> {
-    let mut bytes = random.bytes(if is_major { 613 } else { 57 });
+    let mut bytes = random.bytes(if is_major { 617 } else { 57 });
     bytes[..2].copy_from_slice(&[0x52, if is_major { 0x4A } else { 0x4D }]);
-    for place in [4, 17, 30, 43, 56] {
+    for place in [4, 17, 30, 43, 56].into_iter().chain((601..605).filter(|_| is_major)) {
         bytes[place] %= 16;
     }
-    for place in (601..bytes.len()).step_by(2) {
+    for place in (605..bytes.len()).step_by(2) {
         let any = random.below(1_001) as u16;
         bytes[place..place + 2].copy_from_slice(&random.pick(&[any, 0, 1_000]).to_be_bytes());
     }

@@ -7,7 +7,7 @@ use lib.ListN.{getD}
 use Rattle.bits.specs.Bit.{bit, any}
 use Rattle.cycle.specs.Size.{stringCount, jetCount, manifoldCount, moduleCount}
 use Rattle.cycle.specs.Answers.{isTaken}
-use Rattle.cycle.specs.Jets.{JetRecord, historyBy, newestOf, run, hasAsked}
+use Rattle.cycle.specs.Jets.{JetRecord, historyBy, newestOf, run, askedSinceDrop}
 use Rattle.cycle.specs.Banks.{noBank, noQuantities, weighed}
 use Rattle.cycle.specs.Records.{Record, minor, major}
 use Rattle.cycle.specs.Map.{masksOf, inMask}
@@ -58,13 +58,13 @@ bankAfter m [] = noBank
 bankAfter m (t ∷ ts) = bankBy m (t .values) (bankAfter m ts)
 
 -- Everything that a report shows of the hall h is what the rules say jet by jet, over the records ts taken so far: the cycle number, and at
--- every mapped jet the state of that jet's own run from fresh; a manifold's close bit is 'some jet of its mask has asked'; each module's
--- bank is that of the last taken major record.
+-- every mapped jet the state of that jet's own run from fresh; a manifold's close bit is 'some jet of its mask has asked since the last
+-- drop'; each module's bank is that of the last taken major record.
 pub record Told (masks : List Masks) (h : Hall) (ts : List TakenRecord) : Type 0 where
   pub map : h .masks ≡ masks
   pub number : h .n ≡ reachedBy ts
   pub jets : (s i j : ℕ) → s < stringCount → i < manifoldCount → inMask (masksOf masks s) i j
       → jetOf i j (stringOf h s) ≡ run (jetHistory s i j ts)
   pub closes : (s i : ℕ) → s < stringCount → i < manifoldCount
-      → bit i ((stringOf h s) .close) ≡ any jetCount (λ j. bit j (getD (masksOf masks s) i 0) && hasAsked (jetHistory s i j ts))
+      → bit i ((stringOf h s) .close) ≡ any jetCount (λ j. bit j (getD (masksOf masks s) i 0) && askedSinceDrop (jetHistory s i j ts))
   pub banks : (m : ℕ) → m < moduleCount → getD (h .banks) m noBank ≡ bankAfter m ts

@@ -1,42 +1,49 @@
 -- Calls on states handed in: what a taken record does to every proper hall, that calls keep a hall proper, and that from fresh the bits of
 -- unmapped jets stay 0. Assumes nothing.
-use mathlib.Core.Path.{_≡_, refl, sym, ap, subst, _∙_}
-use mathlib.Core.Bool.{Bool, true, false, _&&_, _||_}
+use mathlib.Core.Path.{_≡_, refl, sym, ap, ap₂, subst, _∙_}
+use mathlib.Core.Bool.{Bool, true, false, not, _&&_, _||_}
 use mathlib.Core.List.{List, [], _∷_, _++_}
-use mathlib.Core.Logic.{_⊎_, inl, inr}
-use Prim.Native.Nat.{ℕ, _<_, _≤_}
+use mathlib.Core.Logic.{_⊎_, inl, inr, _↔_}
+use Prim.Native.Nat.{ℕ, _+_, _<_, _≤_}
+use native.Mathlib.Omega.{arith}
 use lib.ListN.{length, getD, replicate}
 use Rattle.bits.specs.Bit.{bit, any}
-use Rattle.bits.proofs.Yes.{not-both}
+use Rattle.bits.proofs.Yes.{not-both, not-yes, and-true, and-false}
 use Rattle.bits.proofs.Words.{any-same}
 use Rattle.cycle.specs.Size.{stringCount, jetCount, manifoldCount}
 use Rattle.cycle.specs.Answers.{isTaken}
-use Rattle.cycle.specs.Jets.{JetRecord, cycle, asksAt}
+use Rattle.cycle.specs.Jets.{JetRecord, cycle, dropsAt, asksAt}
 use Rattle.cycle.specs.Map.{noMasks, masksOf, inMask, FitMap, refused}
 use Rattle.cycle.specs.Hall.{stringOf, started, stepped}
 use Rattle.cycle.specs.Views.{jetOf, jetRecord}
 use Rattle.cycle.specs.Proper.{ProperHall}
 use Rattle.cycle.specs.Unmapped.{UnmappedNone}
+use Rattle.cycle.specs.declared.answer.Answer.{Answer}
 use Rattle.cycle.specs.declared.answer.Answer.the-variants.{Taken}
 use Rattle.cycle.specs.declared.hall.Hall.{Hall}
 use Rattle.cycle.specs.declared.hall.Stepped.{Stepped}
 use Rattle.cycle.specs.declared.map.Masks.{Masks}
 use Rattle.cycle.proofs.Maps.{in-word}
 use Rattle.cycle.proofs.HallStrings.{stepped-proper}
+use Rattle.cycle.proofs.Runs.{drop-same}
 use Rattle.cycle.proofs.ProperSteps.{stepped-jet, stepped-close}
 use Rattle.cycle.proofs.UnmappedNone.{AllNone, fresh-all-none, stepped-none}
 use Rattle.feed.specs.Size.{outboxNeeded}
 use Rattle.feed.specs.Settled.{recordIn, valuesIn}
-use Rattle.feed.specs.Heard.{jetHeard}
+use Rattle.feed.specs.Answered.{apart, Leaves}
+use Rattle.feed.specs.Heard.{jetHeard, DropCarriedOut}
 use Rattle.feed.specs.Call.{holds, Result, startedOver, called, call}
 use Rattle.feed.specs.Calls.{Made, monitorAfter}
 use Rattle.feed.specs.declared.call.Monitor.{Monitor}
 use Rattle.feed.proofs.Records.Lengths.{below-or}
 use Rattle.feed.proofs.Records.HeardValues.{record-heard}
+use Rattle.feed.proofs.Records.DropHeard.{KindMarked, marked-by, drop-heard}
 use Rattle.feed.proofs.Calls.Calling.{call-called}
 use Rattle.feed.proofs.Calls.CallCases.{CallCase, none, some, call-case}
 use Rattle.feed.proofs.Calls.CallRuns.{calls-kept}
 use Rattle.feed.proofs.Answers.Fixed.{short-call}
+use Rattle.feed.proofs.Answers.Answered.{answers-exactly}
+use Rattle.feed.proofs.Answers.Left.{call-leaves}
 
 -- ---- the hall after a call
 
@@ -116,19 +123,48 @@ module _ (m : Monitor) (piece out : List ℕ) (p : ProperHall (m .hall)) (t : (c
       ∙ stepped-jet (valuesIn (holds m ++ piece)) (m .hall) p s i l below is-taken j stands
       ∙ ap (λ (r : JetRecord). cycle (m .hall .n) r (jetOf i j (stringOf (m .hall) s))) (as-heard j b)
 
-  pub close-steps : bit i ((stringOf after s) .close)
-      ≡ (bit i ((stringOf (m .hall) s) .close)
-      || any jetCount
-      (λ j. bit j (getD (masksOf (m .hall .masks) s) i 0) && asksAt (m .hall .n) (heard j) (jetOf i j (stringOf (m .hall) s))))
+  -- the jets that ask for the close bit
+  abbrev asking : Bool
+  asking =
+      any jetCount
+      (λ j. bit j (getD (masksOf (m .hall .masks) s) i 0) && asksAt (m .hall .n) (heard j) (jetOf i j (stringOf (m .hall) s)))
+
+  close-by : bit i ((stringOf after s) .close) ≡ ((bit i ((stringOf (m .hall) s) .close) && not (dropsAt (heard 0))) || asking)
   unfolding stepping
-  close-steps =
+  close-by =
       let mask : ℕ → Bool = λ j. bit j (getD (masksOf (m .hall .masks) s) i 0) in
       let asks : JetRecord → ℕ → Bool = λ r j. asksAt (m .hall .n) r (jetOf i j (stringOf (m .hall) s)) in
       ap (λ (h : Hall). bit i ((stringOf h s) .close)) led-to
       ∙ stepped-close (valuesIn (holds m ++ piece)) (m .hall) p s i l below is-taken
-      ∙ ap (λ (b : Bool). bit i ((stringOf (m .hall) s) .close) || b)
+      ∙ ap₂ (λ (a b : Bool). (bit i ((stringOf (m .hall) s) .close) && not a) || b)
+      (sym (drop-same (stepping .hall .n) s i 0 (valuesIn (holds m ++ piece))) ∙ ap dropsAt (as-heard 0 (omega arith)))
       (any-same jetCount (λ j. mask j && asks (jetRecord (stepping .hall .n) s i j (valuesIn (holds m ++ piece))) j)
       (λ j. mask j && asks (heard j) j) (λ j b. ap (λ (r : JetRecord). mask j && asks r j) (as-heard j b)))
+
+  -- the drop by the record's bytes
+  drops-exactly : (dropsAt (heard 0) ≡ true) ↔ DropCarriedOut s i (recordIn (holds m ++ piece))
+  drops-exactly =
+      let r = recordIn (holds m ++ piece) in
+      let led = subst (λ (a : Answer). Leaves a m piece out (call m piece out)) t (call-leaves m piece out) in
+      let matched = answers-exactly m piece out Taken .0 t .3 in
+      drop-heard s i 0 (record { n = after .n; bytes = r })
+      (subst (λ (n : ℕ). KindMarked (record { n = n; bytes = r })) (sym (led .1)) (marked-by (m .hall .n + apart (m .hall .n) r) r matched))
+
+  -- without a drop the close bit stays, and one that asks sets it
+  pub close-steps : (DropCarriedOut s i (recordIn (holds m ++ piece)) → ⊥)
+      → bit i ((stringOf after s) .close) ≡ (bit i ((stringOf (m .hall) s) .close) || asking)
+  close-steps undone =
+      close-by
+      ∙ ap (λ (b : Bool). (bit i ((stringOf (m .hall) s) .close) && not b) || asking)
+      (not-yes (dropsAt (heard 0)) (λ e. undone (drops-exactly .0 e)))
+      ∙ ap (λ (b : Bool). b || asking) (and-true (bit i ((stringOf (m .hall) s) .close)))
+
+  -- with one, only what asks in this very record sets it
+  pub drop-steps : DropCarriedOut s i (recordIn (holds m ++ piece)) → bit i ((stringOf after s) .close) ≡ asking
+  drop-steps d =
+      close-by
+      ∙ ap (λ (b : Bool). (bit i ((stringOf (m .hall) s) .close) && not b) || asking) (drops-exactly .1 d)
+      ∙ ap (λ (b : Bool). b || asking) (and-false (bit i ((stringOf (m .hall) s) .close)))
 
 -- ---- from fresh
 

@@ -1,5 +1,5 @@
 -- No record waits for long: what calls have used of a feed is bytes in which no whole record starts, and records that they settled; and the
--- bytes held at the end are too few to keep a whole record that 614 bytes have come of. Assumes nothing.
+-- bytes held at the end are too few to keep a whole record that 618 bytes have come of. Assumes nothing.
 use mathlib.Core.Path.{_≡_, refl, sym, ap, ap₂, subst, _∙_}
 use mathlib.Core.Bool.{true}
 use mathlib.Core.List.{List, [], _∷_, _++_, append-assoc, append-nil}

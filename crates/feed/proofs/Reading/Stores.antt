@@ -65,6 +65,6 @@ module _ (l y : List ℕ) (n m : ℕ) (e : length l ≡ storeLength) (f : n + m 
   pub again-long : length (putMid n m l y) ≡ storeLength
   again-long = ap length stored-again ∙ length-store (take n l) (let c = taken-long in omega arith)
 
--- a state handed in holds at most 614 bytes
+-- a state handed in holds at most 618 bytes
 pub count-short : (count : ℕ) → heldCount count ≤ mostHeld
 count-short count = cond-by (λ (n : ℕ). n ≤ mostHeld) (ltb mostHeld count) (λ t. omega arith) (λ t. ltb-false mostHeld count t)

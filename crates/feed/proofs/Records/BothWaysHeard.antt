@@ -16,7 +16,7 @@ use Rattle.cycle.specs.Hall.{noRequests}
 use Rattle.cycle.specs.BothWays.{NamedBothWays}
 use Rattle.cycle.specs.declared.map.Masks.{Masks}
 use Rattle.cycle.specs.declared.values.Requests.{Requests}
-use Rattle.feed.specs.Size.{majorMark, wordLength, requestsFrom, requestsLength}
+use Rattle.feed.specs.Size.{majorMark, wordLength, requestsFrom, requestsLength, dropsFrom}
 use Rattle.feed.specs.Bytes.{four}
 use Rattle.feed.specs.Values.{requestsOf, majorOf, valuesOf}
 use Rattle.feed.specs.Answered.{BothWaysSaid}
@@ -24,16 +24,18 @@ use Rattle.feed.proofs.Records.HeardValues.{requests-at}
 use Rattle.feed.proofs.Records.Lengths.{by-test}
 
 module _ (masks : List Masks) (r : List ℕ) where
-  -- the two words of string s, the places added up as `Answered` writes them
+  -- the requests of string s, the places added up as `Answered` writes them
   words : (s : ℕ) → s < stringCount
       → getD (requestsOf r) s noRequests
       ≡ record {
         inhibit = four r (requestsFrom + requestsLength * s);
         reenable = four r (requestsFrom + wordLength + requestsLength * s);
+        drop = getD r (dropsFrom + s) 0;
       }
   words s l =
       let place : requestsFrom + requestsLength * s + wordLength ≡ requestsFrom + wordLength + requestsLength * s = omega arith in
-      requests-at r s l ∙ λ i. record { inhibit = four r (requestsFrom + requestsLength * s); reenable = four r (place i) }
+      requests-at r s l
+      ∙ λ i. record { inhibit = four r (requestsFrom + requestsLength * s); reenable = four r (place i); drop = getD r (dropsFrom + s) 0 }
 
   to-major : getD r 1 0 ≡ majorMark → NamedBothWays masks (major (majorOf r)) → BothWaysSaid masks r
   unfolding majorOf

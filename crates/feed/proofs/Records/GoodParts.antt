@@ -1,4 +1,4 @@
--- The tests of a full record and what document 01 says of its bytes: sum, reserved bits, quantities. Assumes nothing.
+-- The tests of a full record and what documents 01 and 02 say of its bytes: sum, reserved bits, quantities. Assumes nothing.
 use mathlib.Core.Path.{_≡_, subst}
 use mathlib.Core.Bool.{Bool, true}
 use mathlib.Core.List.{List}
@@ -15,8 +15,8 @@ use Rattle.bits.proofs.Every.{every-at, every-from}
 use Rattle.cycle.specs.Size.{stringCount, moduleCount}
 use Rattle.feed.specs.Size.{reservedFrom, mostQuantity, quantitiesFrom, quantitiesLength, quantityLength}
 use Rattle.feed.specs.Bytes.{two}
-use Rattle.feed.specs.Format.{sumRight, sumOf, pathZero, valvesZero, reservedZero, twoRight, quantitiesRight}
-use Rattle.feed.specs.Good.{ReservedZero, SumRight, QuantitiesRight}
+use Rattle.feed.specs.Format.{sumRight, sumOf, pathZero, valvesZero, reservedZero, dropZero, dropsZero, twoRight, quantitiesRight}
+use Rattle.feed.specs.Good.{ReservedZero, DropsZero, SumRight, QuantitiesRight}
 
 module _ (r : List ℕ) where
   pub reserved-to : reservedZero r ≡ true → ReservedZero r
@@ -33,6 +33,14 @@ module _ (r : List ℕ) where
   reserved-from z =
       and-both (pathZero r) (every stringCount (valvesZero r)) (lt-ltb _ reservedFrom (z .path))
       (every-from stringCount (valvesZero r) (λ s l. lt-ltb _ reservedFrom (z .valves s l)))
+
+  pub drops-to : dropsZero r ≡ true → DropsZero r
+  unfolding dropsZero
+  drops-to e s l = ltb-true _ reservedFrom (every-at stringCount (dropZero r) e s l)
+
+  pub drops-from : DropsZero r → dropsZero r ≡ true
+  unfolding dropsZero
+  drops-from z = every-from stringCount (dropZero r) (λ s l. lt-ltb _ reservedFrom (z s l))
 
   -- the two quantities of module m
   abbrev place : ℕ → ℕ

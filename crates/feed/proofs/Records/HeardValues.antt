@@ -15,8 +15,8 @@ use Rattle.cycle.specs.Records.{minor, major}
 use Rattle.cycle.specs.Views.{jetSays, jetRecord}
 use Rattle.cycle.specs.declared.values.Sample.{Sample}
 use Rattle.feed.specs.Size.{wordLength, temperatureLength, pathAt, samplesFrom, valvesIn, sampleLength, temperaturesFrom}
-use Rattle.feed.specs.Size.{temperatureCount, temperaturesLength, requestsFrom, requestsLength, quantitiesFrom, quantitiesLength}
-use Rattle.feed.specs.Size.{majorMark}
+use Rattle.feed.specs.Size.{temperatureCount, temperaturesLength, requestsFrom, requestsLength, dropsFrom, quantitiesFrom}
+use Rattle.feed.specs.Size.{quantitiesLength, majorMark}
 use Rattle.feed.specs.Bytes.{two, four}
 use Rattle.feed.specs.Values.{sampleAt, samplesOf, minorOf, wordsAt, temperaturesAt, temperaturesOf}
 use Rattle.feed.specs.Values.{requestsAt, requestsOf, quantitiesAt, quantitiesOf, majorOf, valuesOf}
@@ -42,9 +42,9 @@ module _ (r : List ℕ) where
   unfolding samplesOf
   sample-at s l = table-at (λ k. sampleAt r (sampleIn k)) noSample stringCount s l
 
-  pub requests-at : (s : ℕ) → s < stringCount → getD (requestsOf r) s noRequests ≡ requestsAt r (requestsIn s)
+  pub requests-at : (s : ℕ) → s < stringCount → getD (requestsOf r) s noRequests ≡ requestsAt r (requestsIn s) (dropsFrom + s)
   unfolding requestsOf
-  requests-at s l = table-at (λ k. requestsAt r (requestsIn k)) noRequests stringCount s l
+  requests-at s l = table-at (λ k. requestsAt r (requestsIn k) (dropsFrom + k)) noRequests stringCount s l
 
   temperatures-at : (s : ℕ) → s < stringCount → getD (temperaturesOf r) s noTemperatures ≡ temperaturesAt r (temperaturesIn s)
   unfolding temperaturesOf

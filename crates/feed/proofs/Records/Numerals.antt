@@ -1,11 +1,12 @@
--- The lengths and places of `Size` in the numerals that document 01 writes or that its parts add up to. Only these laws, and the files that
--- speak in document 01's own numerals, know them. Assumes nothing.
+-- The lengths and places of `Size` in the numerals that documents 01 and 02 write or that the parts add up to. Only these laws, and the
+-- files that speak in the documents' own numerals, know them. Assumes nothing.
 use mathlib.Core.Path.{_≡_, refl}
 use Prim.Native.Nat.{_-_, _*_}
 use Rattle.cycle.specs.Size.{stringCount}
 use Rattle.feed.specs.Size.{markLength, wireAt, pathAt, samplesFrom, valvesIn, sampleLength, minorSummed, minorLength}
-use Rattle.feed.specs.Size.{temperaturesFrom, temperatureCount, temperaturesLength, requestsFrom, requestsLength, quantitiesFrom}
-use Rattle.feed.specs.Size.{quantitiesLength, majorSummed, majorLength, leastLength, storeLength, mostHeld, answerAt, countAt}
+use Rattle.feed.specs.Size.{temperaturesFrom, temperatureCount, temperaturesLength, requestsFrom, requestsLength, dropsFrom}
+use Rattle.feed.specs.Size.{quantitiesFrom, quantitiesLength, majorSummed, majorLength, leastLength, storeLength, mostHeld, answerAt}
+use Rattle.feed.specs.Size.{countAt}
 use Rattle.feed.specs.Size.{stringsFrom, stringPart, balanceAt, lesserFrom, lesserLength, oxidizerFrom, reportLength, outboxNeeded}
 use Rattle.feed.specs.Size.{masksLength, mapLength}
 
@@ -55,16 +56,19 @@ requests-from = refl
 pub requests-length : requestsLength ≡ 8
 requests-length = refl
 
-pub quantities-from : quantitiesFrom ≡ 601
+pub drops-from : dropsFrom ≡ 601
+drops-from = refl
+
+pub quantities-from : quantitiesFrom ≡ 605
 quantities-from = refl
 
 pub quantities-length : quantitiesLength ≡ 4
 quantities-length = refl
 
-pub major-summed : majorSummed ≡ 613
+pub major-summed : majorSummed ≡ 617
 major-summed = refl
 
-pub major-length : majorLength ≡ 615
+pub major-length : majorLength ≡ 619
 major-length = refl
 
 -- ---- the reader
@@ -72,10 +76,10 @@ major-length = refl
 pub least-length : leastLength ≡ 59
 least-length = refl
 
-pub store-length : storeLength ≡ 615
+pub store-length : storeLength ≡ 619
 store-length = refl
 
-pub most-held : mostHeld ≡ 614
+pub most-held : mostHeld ≡ 618
 most-held = refl
 
 -- ---- a report

@@ -7,7 +7,8 @@ use native.Mathlib.Omega.{arith}
 use lib.ListN.{length, getD, replicate, length-replicate, getD-replicate, List·getD-append, List·getD-eq-default}
 use Rattle.cycle.specs.Size.{stringCount, moduleCount}
 use Rattle.feed.specs.Size.{wireAt, pathAt, samplesFrom, sampleLength, temperatureLength, temperatureCount, temperaturesFrom}
-use Rattle.feed.specs.Size.{temperaturesLength, requestsFrom, requestsLength, quantitiesFrom, quantitiesLength, storeLength}
+use Rattle.feed.specs.Size.{temperaturesLength, requestsFrom, requestsLength, dropsFrom, quantitiesFrom, quantitiesLength}
+use Rattle.feed.specs.Size.{storeLength}
 use Rattle.feed.specs.Bytes.{two, four}
 use Rattle.feed.specs.Reader.{store}
 use Rattle.feed.specs.Values.{sampleAt, samplesOf, minorOf, wordsAt, temperaturesAt, temperaturesOf, requestsAt, requestsOf}
@@ -77,8 +78,10 @@ module _ (l k : List ℕ) (e : (i : ℕ) → getD l i 0 ≡ getD k i 0) where
   requests-same : requestsOf l ≡ requestsOf k
   unfolding requestsOf
   requests-same =
-      table-same (λ s. requestsAt l (requestsFrom + requestsLength * s)) (λ s. requestsAt k (requestsFrom + requestsLength * s)) stringCount
-      (λ s b. rw (four-same (requestsFrom + requestsLength * s), four-same (requestsFrom + requestsLength * s + 4)) refl)
+      table-same (λ s. requestsAt l (requestsFrom + requestsLength * s) (dropsFrom + s))
+      (λ s. requestsAt k (requestsFrom + requestsLength * s) (dropsFrom + s)) stringCount
+      (λ s b.
+      rw (four-same (requestsFrom + requestsLength * s), four-same (requestsFrom + requestsLength * s + 4), e (dropsFrom + s)) refl)
 
   quantities-same : quantitiesOf l ≡ quantitiesOf k
   unfolding quantitiesOf

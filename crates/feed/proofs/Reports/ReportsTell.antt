@@ -16,7 +16,7 @@ use Rattle.bits.proofs.Yes.{not-both}
 use Rattle.bits.proofs.Words.{any-same}
 use Rattle.cycle.specs.Size.{stringCount, jetCount, manifoldCount, moduleCount}
 use Rattle.cycle.specs.Answers.{writesReport}
-use Rattle.cycle.specs.Jets.{JetRecord, run, hasAsked}
+use Rattle.cycle.specs.Jets.{JetRecord, run, askedSinceDrop}
 use Rattle.cycle.specs.Map.{masksOf, inMask, FitMap, mapped, refused}
 use Rattle.cycle.specs.Banks.{noBank}
 use Rattle.cycle.specs.Hall.{stringOf}
@@ -101,12 +101,12 @@ module _ (masks : List Masks) (h : Hall) (ts : List Heard) (kept : Kept masks h 
       kept .run .told .jets s i j l below stands ∙ ap run (history-carried s i j l word (kept .carry))
 
   pub asked-same : (s i : ℕ) → s < stringCount → i < manifoldCount
-      → bit i ((stringOf h s) .close) ≡ any jetCount (λ j. bit j (getD (masksOf masks s) i 0) && hasAsked (jetHistory s i j ts))
+      → bit i ((stringOf h s) .close) ≡ any jetCount (λ j. bit j (getD (masksOf masks s) i 0) && askedSinceDrop (jetHistory s i j ts))
   asked-same s i l below =
       kept .run .told .closes s i l below
-      ∙ any-same jetCount (λ j. bit j (getD (masksOf masks s) i 0) && hasAsked (runs.jetHistory s i j (kept .values)))
-      (λ j. bit j (getD (masksOf masks s) i 0) && hasAsked (jetHistory s i j ts))
-      (λ j b. ap (λ (t : List JetRecord). bit j (getD (masksOf masks s) i 0) && hasAsked t) (history-carried s i j l b (kept .carry)))
+      ∙ any-same jetCount (λ j. bit j (getD (masksOf masks s) i 0) && askedSinceDrop (runs.jetHistory s i j (kept .values)))
+      (λ j. bit j (getD (masksOf masks s) i 0) && askedSinceDrop (jetHistory s i j ts))
+      (λ j b. ap (λ (t : List JetRecord). bit j (getD (masksOf masks s) i 0) && askedSinceDrop t) (history-carried s i j l b (kept .carry)))
 
   pub hall-tells : Tells masks a ts report
   unfolding reportOf headOf

@@ -1,12 +1,11 @@
 //! `compare WATCH CALLS [--also WATCH].. [--feeds N] [--bytes TOTAL] [--halls N]`: runs programs over seeded
 //! input and demands every byte of their output to be the reference's. All of WATCH run over the same input.
 
-use reference::both_ways_cases::BothWaysCases;
+use reference::counted::Counted;
 use reference::feed::{masks_bytes, run, MASKS_LENGTH};
 use reference::foreign::{self, Cases};
 use reference::generate::input;
 use reference::hall::{BOTH_WAYS, NOTHING_SETTLED};
-use reference::leak_cases::LeakCases;
 use reference::process::{cut, run_file, run_pieces};
 use reference::random::Random;
 use reference::report::REPORT_LENGTH;
@@ -24,8 +23,7 @@ const HALLS: u64 = 20_000;
 const CALL_INPUTS: u64 = 500;
 const NOISES: u64 = 24;
 const HALLS_AT_ONCE: u64 = 250;
-/// How often each case of leaks and of jets named both ways must be met, in the feeds and in the halls,
-/// unless fewer are asked for.
+/// How often each counted case must be met, in the feeds and in the halls, unless fewer are asked for.
 const LEAST_MET: u64 = 25;
 
 fn main() -> ExitCode {
@@ -36,15 +34,12 @@ fn main() -> ExitCode {
     let (watches, calls) = (&mut asked.watches, &mut asked.calls);
     let begin = Instant::now();
     let mut score = Score::default();
-    let (tally, leaks_of_feeds, both_ways_of_feeds) = feeds(watches, asked.feeds, asked.bytes, &mut score);
+    let (tally, of_feeds) = feeds(watches, asked.feeds, asked.bytes, &mut score);
     let bad_inputs = bad_inputs(watches, &mut score);
     let answers = scripts(calls, &mut score);
-    let (cases, leaks_of_halls, both_ways_of_halls) = foreign_halls(calls, asked.halls, &mut score);
+    let (cases, of_halls) = foreign_halls(calls, asked.halls, &mut score);
     let seconds = begin.elapsed().as_secs_f64();
-    print!("leaks of feeds, by the fuel word, by the oxidizer word, by both:\n{leaks_of_feeds}");
-    print!("leaks of halls:\n{leaks_of_halls}");
-    print!("jets named both ways in feeds:\n{both_ways_of_feeds}");
-    print!("jets named both ways in halls:\n{both_ways_of_halls}");
+    print!("FEEDS\n{of_feeds}HALLS\n{of_halls}");
     println!("{tally:?}; {bad_inputs} inputs of noise or bad masks; {answers}; {cases:?}; {seconds:.1} s");
     watches.iter().chain([&*calls]).for_each(|program| println!("{program}"));
     score.end()
@@ -79,14 +74,8 @@ impl Asked {
 }
 
 /// Seeded nights, each whole from a file or a pipe, every third also in pieces.
-fn feeds(
-    watches: &mut [Program],
-    number: u64,
-    total: u64,
-    score: &mut Score,
-) -> (Tally, LeakCases, BothWaysCases) {
-    let (mut tally, mut leaks, mut both_ways) =
-        (Tally::default(), LeakCases::default(), BothWaysCases::of_feeds());
+fn feeds(watches: &mut [Program], number: u64, total: u64, score: &mut Score) -> (Tally, Counted) {
+    let (mut tally, mut counted) = (Tally::default(), Counted::of_feeds());
     let share = (total / number) as usize + 1;
     for seed in 0..number {
         // Short and long feeds, that come to the wanted total.
@@ -94,8 +83,7 @@ fn feeds(
         let (bytes, damaged) = input(seed, size);
         let reports = reports(&bytes);
         tally.add(bytes.len(), damaged, &reports);
-        leaks.add_feed(&bytes);
-        both_ways.add_feed(&bytes);
+        counted.add_feed(&bytes);
         let name = format!("feed of seed {seed}, size {size}");
         for watch in &mut *watches {
             if seed % 3 == 0 {
@@ -111,10 +99,9 @@ fn feeds(
         }
     }
     if number >= FEEDS && total >= BYTES {
-        score.check("leaks of the feeds", leaks.each_met(LEAST_MET));
-        score.check("jets named both ways in the feeds", both_ways.each_met(LEAST_MET));
+        score.check("cases of the feeds", counted.each_met(LEAST_MET));
     }
-    (tally, leaks, both_ways)
+    (tally, counted)
 }
 
 /// Noise, empty input, short and refused masks.
@@ -170,13 +157,12 @@ fn scripts(calls: &mut Program, score: &mut Score) -> String {
 
 /// Halls that no run reaches, many to an input. Where one differs, its input is tried hall by hall, to
 /// name it.
-fn foreign_halls(calls: &mut Program, number: u64, score: &mut Score) -> (Cases, LeakCases, BothWaysCases) {
-    let (mut cases, mut leaks, mut both_ways) =
-        (Cases::default(), LeakCases::default(), BothWaysCases::of_halls());
+fn foreign_halls(calls: &mut Program, number: u64, score: &mut Score) -> (Cases, Counted) {
+    let (mut cases, mut counted) = (Cases::default(), Counted::of_halls());
     let mut begin = 0;
     while begin < number {
         let end = number.min(begin + HALLS_AT_ONCE);
-        let script = |seed| foreign::script(seed, &mut cases, &mut leaks, &mut both_ways);
+        let script = |seed| foreign::script(seed, &mut cases, &mut counted);
         let scripts: Vec<Vec<u8>> = (begin..end).map(script).collect();
         if !plays(calls, score, &format!("halls of seeds {begin} to {end}"), scripts.concat()) {
             for (seed, script) in (begin..end).zip(scripts) {
@@ -186,10 +172,9 @@ fn foreign_halls(calls: &mut Program, number: u64, score: &mut Score) -> (Cases,
         begin = end;
     }
     if number >= HALLS {
-        score.check("leaks of the halls", leaks.each_met(LEAST_MET));
-        score.check("jets named both ways in the halls", both_ways.each_met(LEAST_MET));
+        score.check("cases of the halls", counted.each_met(LEAST_MET));
     }
-    (cases, leaks, both_ways)
+    (cases, counted)
 }
 
 fn plays(calls: &mut Program, score: &mut Score, name: &str, input: Vec<u8>) -> bool {

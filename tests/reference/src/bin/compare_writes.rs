@@ -130,6 +130,7 @@ fn lively(tally: &Tally) -> Result<(), String> {
         && tally.refused_with_7 > NIGHTS
         && tally.feeds_with_failed_jet > NIGHTS / 2
         && tally.feeds_with_close_bit > NIGHTS / 3
+        && tally.drops_seen > NIGHTS / 3
         && tally.feeds_with_imbalance > NIGHTS / 2
         && tally.damaged_spots > NIGHTS;
     enough.then_some(()).ok_or("too little happens in them".into())

@@ -39,7 +39,7 @@ fn main() -> ExitCode {
     night("records in two halves", two_halves);
     night("records byte by byte", byte_by_byte);
     night("a false major gives up its records at once", false_major);
-    night("a close order is out when it falls due", close_order);
+    night("a close order is out when it falls due, and gone when it is dropped", close_order);
     score.check("masks and first record in one write", masks_with_record(watch));
     score.check("output closed early", output_closed(watch));
     score.check("input closed in a record", input_closed(watch));
@@ -106,7 +106,7 @@ fn one_at_a_time(pair: &mut Pair) -> Outcome {
 }
 
 fn two_halves(pair: &mut Pair) -> Outcome {
-    for (cycle, half) in [(1, 1), (2, 30), (3, 58), (25, 59), (26, 2), (50, 614)] {
+    for (cycle, half) in [(1, 1), (2, 30), (3, 58), (25, 59), (26, 2), (50, 618)] {
         let record = quiet(cycle);
         pair.exchange(&record[..half])?;
         pair.running.stays_silent(WHILE)?;
@@ -123,20 +123,26 @@ fn byte_by_byte(pair: &mut Pair) -> Outcome {
 /// Three records settle at one byte; none of their reports may wait for another.
 fn false_major(pair: &mut Pair) -> Outcome {
     let mut bytes = [vec![MARK, MAJOR], quiet(1), quiet(2), quiet(3)].concat();
-    bytes.resize(614, 0);
+    bytes.resize(618, 0);
     pair.exchange(&bytes)?;
     pair.running.stays_silent(WHILE)?;
     pair.exchange(&[0])?;
     pair.exchange(&quiet(4)).map(drop)
 }
 
-/// The order is out while the input stays open and silent.
+/// The order, and its end when it is dropped, are out while the input stays open and silent.
 fn close_order(pair: &mut Pair) -> Outcome {
-    for cycle in 1..=75 {
+    for cycle in 1..=100 {
         let mut record = Record::quiet(cycle);
-        record.strings[2].driver = 0x20;
+        record.strings[2].driver = if cycle <= 75 { 0x20 } else { 0 };
+        for major in record.major.iter_mut().filter(|_| cycle == 100) {
+            major.strings[2].drops = 2;
+        }
         let report = Report::read(&pair.exchange(&record.bytes())?);
-        assert_eq!(report.close, [0, 0, if cycle == 75 { 2 } else { 0 }, 0]);
+        assert_eq!(report.close, [0, 0, if (75..100).contains(&cycle) { 2 } else { 0 }, 0]);
+        if cycle == 75 {
+            pair.running.stays_silent(WHILE)?;
+        }
     }
     pair.running.stays_silent(WHILE)
 }
@@ -180,7 +186,7 @@ fn long_run(watch: &str, records: u64) -> Outcome {
     let mut input = pair.running.input.take().expect("input is open");
     let id = pair.running.child.id();
     // With this seed everything happens that can happen on a line.
-    let mut night = Night::after(0, &MASKS, Random(490));
+    let mut night = Night::after(0, &MASKS, Random(1291));
     let mut sent = night.clone();
     let writer = thread::spawn(move || {
         let (mut looks, mut bytes) = (Vec::new(), 0);

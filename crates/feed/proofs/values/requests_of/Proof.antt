@@ -3,14 +3,14 @@ use borrow.Author.Needs.{needs}
 use mathlib.Core.Path.{refl}
 use Prim.Native.Nat.{_+_, _*_, _-_}
 use Rattle.cycle.specs.Size.{stringCount}
-use Rattle.feed.specs.Size.{requestsFrom, requestsLength}
+use Rattle.feed.specs.Size.{requestsFrom, requestsLength, dropsFrom}
 use Rattle.feed.specs.Values.{requestsAt, requestsOf}
 use Rattle.feed.proofs.Records.Tables.{Filling, filling-none, filling-next, filling-end}
 use Rattle.feed.proofs.values.requests_of.Statement.{statement}
 use Rattle.feed.proofs.values.requests_of.Tie as tie
 
 abbrev Inv-loop : tie.InvT-loop
-Inv-loop s all₀ k₀ all k = Filling (λ j. requestsAt s (requestsFrom + requestsLength * j)) stringCount all₀ all k
+Inv-loop s all₀ k₀ all k = Filling (λ j. requestsAt s (requestsFrom + requestsLength * j) (dropsFrom + j)) stringCount all₀ all k
 
 abbrev μ-loop : tie.MeasureT-loop
 μ-loop s all₀ k₀ all k = stringCount - k
@@ -29,6 +29,7 @@ requests-of-spec =
     Inv-loop
     μ-loop
     (λ c. filling-none _ _ _)
+    (λ c. search needs)
     (λ c. search needs)
     (λ c. search needs)
     (λ c κs. search needs)

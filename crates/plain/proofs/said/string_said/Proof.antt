@@ -1,6 +1,7 @@
 -- `plain::said::string_said` meets its contract. Assumes nothing.
 use borrow.Author.Needs.{needs}
-use mathlib.Core.Path.{refl, ap, _∙_}
+use mathlib.Core.Path.{refl, ap, ap₂, _∙_}
+use mathlib.Core.Bool.{Bool}
 use mathlib.Core.List.{List}
 use Prim.Native.Nat.{ℕ, _-_}
 use lib.ListN.{getD}
@@ -31,11 +32,14 @@ loop-again c =
 returns : tie.Need-returns Inv-loop μ-loop
 unfolding stringSaid
 returns c =
-    let a = c .before .before .before .args in
-    ap (λ (l : List JetSaid). record { path = a .path; jets = l }) (filling-end _ _ _ _ _ refl (c .before .loop .inv) (c .loop-test .left))
+    let l = c .before in
+    let a = l .before .before .before .args in
+    ap₂ (λ (d : List Bool) (j : List JetSaid). record { path = a .path; drops = d; jets = j }) (c .drops-said .ensures)
+    (filling-end _ _ _ _ _ refl (l .before .loop .inv) (l .loop-test .left))
 
 pub string-said-spec : {M : Type 1} → statement M
 string-said-spec =
     tie.close
     (tie.spec Inv-loop μ-loop (λ c κs. search needs) loop-holds (λ c. search needs) (λ c. search needs) (λ c κs. search needs) (λ
-    c κs. search needs) (λ c. search needs) (λ c. search needs) (λ c. search needs) (λ c. search needs) loop-again returns)
+    c κs. search needs) (λ c. search needs) (λ c. search needs) (λ c. search needs) (λ c. search needs) loop-again
+    (λ c κs. search needs) returns)

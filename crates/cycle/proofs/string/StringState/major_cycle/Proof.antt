@@ -12,7 +12,7 @@ returns c = rw (c .if1 .taken)
 returns-2 : tie.Need-returns-2
 unfolding majorCycle majorSteps
 returns-2 c =
-    let judged = c .before .before .before .before .before .before in
+    let judged = c .before .before .before .before .before .before .before in
     let leak = judged .before in
     let map = leak .before in
     let left = map .before in
@@ -33,5 +33,5 @@ returns-2 c =
 pub major-cycle-spec : {M : Type 1} → statement M
 major-cycle-spec =
     tie.close
-    (tie.spec (λ c κs. search needs) (λ c κs. search needs) (λ c κs. search needs) (λ c κs. search needs) (λ c κs. search needs)
-    (λ c κs. search needs) (λ c κs. search needs) returns returns-2)
+    (tie.spec (λ c κs. search needs) (λ c κs. search needs) (λ c κs. search needs) (λ c. search needs) (λ c κs. search needs)
+    (λ c κs. search needs) (λ c κs. search needs) (λ c κs. search needs) returns returns-2)

@@ -11,4 +11,4 @@ returns c = cc
 pub requested-spec : {M : Type 1} → statement M
 requested-spec =
     tie.close
-    (tie.spec (λ c κs. search needs) (λ c κs. search needs) (λ c κs. search needs) returns)
+    (tie.spec (λ c κs. search needs) (λ c κs. search needs) (λ c κs. search needs) (λ c κs. search needs) returns)

@@ -1,0 +1,88 @@
+//! All cases that the feeds, or the halls handed in, have to meet.
+
+use crate::both_ways_cases::BothWaysCases;
+use crate::claim_cases::ClaimCases;
+use crate::drop_cases::DropCases;
+use crate::hall::{Hall, TAKEN};
+use crate::leak_cases::LeakCases;
+use crate::record::Record;
+use std::fmt;
+
+#[derive(Clone, Debug)]
+pub struct Counted {
+    pub leaks: LeakCases,
+    pub both_ways: BothWaysCases,
+    pub drops: DropCases,
+    /// No feed hands in a state.
+    pub claims: Option<ClaimCases>,
+}
+
+impl Counted {
+    pub fn of_feeds() -> Counted {
+        Counted {
+            leaks: LeakCases::default(),
+            both_ways: BothWaysCases::of_feeds(),
+            drops: DropCases::of_feeds(),
+            claims: None,
+        }
+    }
+
+    pub fn of_halls() -> Counted {
+        Counted {
+            leaks: LeakCases::default(),
+            both_ways: BothWaysCases::of_halls(),
+            drops: DropCases::of_halls(),
+            claims: Some(ClaimCases::default()),
+        }
+    }
+
+    /// What the program reads for a night.
+    pub fn add_feed(&mut self, input: &[u8]) {
+        self.leaks.add_feed(input);
+        self.both_ways.add_feed(input);
+        self.drops.add_feed(input);
+    }
+
+    /// The next record is for another hall.
+    pub fn begin(&mut self) {
+        self.both_ways.begin();
+        self.drops.begin();
+    }
+
+    /// A call's answer, the hall before it, the record that it settled, or would settle with a longer outbox, the
+    /// hall after it, and the full records that were lost.
+    pub fn add_call(
+        &mut self,
+        answer: u8,
+        before: &Hall,
+        settled: Option<&Record>,
+        after: &Hall,
+        lost: &[Vec<u8>],
+    ) {
+        lost.iter().for_each(|bytes| self.drops.add_lost(bytes));
+        if let Some(record) = settled {
+            self.both_ways.add(answer, before, record);
+            self.drops.add(answer, before, record, after);
+            if answer == TAKEN {
+                self.leaks.add_call(record, after);
+            }
+        }
+    }
+
+    /// Demands that every variant of every case was met that often.
+    pub fn each_met(&self, least: u64) -> Result<(), String> {
+        self.leaks.each_met(least)?;
+        self.both_ways.each_met(least)?;
+        self.drops.each_met(least)?;
+        self.claims.iter().try_for_each(|claims| claims.each_met(least))
+    }
+}
+
+impl fmt::Display for Counted {
+    fn fmt(&self, lines: &mut fmt::Formatter) -> fmt::Result {
+        write!(lines, "leaks, by the fuel word, by the oxidizer word, by both:\n{}", self.leaks)?;
+        write!(lines, "jets named both ways:\n{}", self.both_ways)?;
+        write!(lines, "close bits dropped:\n{}", self.drops)?;
+        self.claims.iter().try_for_each(|claims| write!(lines, "claims of held bytes:\n{claims}"))
+    }
+}
