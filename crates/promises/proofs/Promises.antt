@@ -205,8 +205,7 @@ module _ (masks : List Masks) (words : FitMap masks) (accepted : refused stringC
     close-never = close.close-never masks words accepted s i string manifold
 
     -- "Dropping happens in step 5, so step 6 of the same cycle may set the bit again": where a drop is carried out, the close command is in
-    -- the report if and only if that very record is such a third (which
-    -- then is the earliest)
+    -- the report if and only if that very record is such a third (which then is the earliest)
     pub close-after-drop : (c : Made) (cs : List Made) → TakesDrop masks s i c cs
         → Shows masks s i c cs ↔ Earliest (getD (masksOf masks s) i 0) s i (takenRecords masks (c ∷ cs))
     close-after-drop = close.close-after-drop masks words accepted s i string manifold
