@@ -10,14 +10,12 @@ import random
 import sys
 
 sys.path.append(str(pathlib.Path(__file__).resolve().parent.parent / "tests/nights"))
-from records import ALL_OPEN, JETS, MAJOR_EVERY, MODULES, STRINGS, map_bytes, major, minor
+from records import ALL_OPEN, JETS, MAJOR_EVERY, MANIFOLDS, MODULES, STRINGS, map_bytes, major, minor
 
-MASKS = {
-    32: [0x000000FF, 0x0000FF00, 0x00FF0000, 0xFF000000],
-    # 3, 3, 3 and 2 jets, the lowest of each manifold's eight
-    11: [0x00000007, 0x00000700, 0x00070000, 0x03000000],
-    0: [0, 0, 0, 0],
-}
+# for each number of jets, how many of them each manifold has: the lowest of its four
+SPLIT = {32: [4] * MANIFOLDS, 11: [3, 2, 1, 1, 1, 1, 1, 1], 0: [0] * MANIFOLDS}
+EACH = JETS // MANIFOLDS
+MASKS = {jets: [((1 << number) - 1) << EACH * i for i, number in enumerate(split)] for jets, split in SPLIT.items()}
 
 
 def string(rng):

@@ -7,10 +7,13 @@ import sys
 
 HERE = pathlib.Path(__file__).resolve().parent
 sys.path.append(str(HERE.parent / "tests/nights"))
-from records import ALL_OPEN, QUIET, STRINGS, map_bytes, record, word_of
+from records import ALL_OPEN, JETS, MANIFOLDS, QUIET, STRINGS, map_bytes, masks_of, record, word_of
 
-# Every string has eight jets on each of its four manifolds: 0 to 7, 8 to 15, 16 to 23, 24 to 31.
-HALL = [[0x000000FF, 0x0000FF00, 0x00FF0000, 0xFF000000]] * STRINGS
+# Every string has four jets on each of its eight manifolds: 0 to 3, 4 to 7, and so on up to 28 to 31.
+EACH = JETS // MANIFOLDS
+HALL = [[((1 << EACH) - 1) << EACH * i for i in range(MANIFOLDS)]] * STRINGS
+# Every string has jets 0 to 15 on manifold 7, 16 to 23 on 6, 24 to 27 on 5, 28 and 29 on 4, 30 on 3, 31 on 2, and none on 1 and 0.
+UNEVEN = [[0, 0, 0x80000000, 0x40000000, 0x30000000, 0x0F000000, 0x00FF0000, 0x0000FFFF]] * STRINGS
 
 
 def only(place):
@@ -19,22 +22,23 @@ def only(place):
 
 
 def stuck_jet():
-    """String 1, jet 13: its driver stays on when the command ends, and module 1 blows off fuel until manifold 1 is closed."""
+    """String 1, jet 29: its driver stays on when the command ends, and module 1 blows off fuel until manifold 7 is closed."""
     feed = [map_bytes(HALL)]
     stuck, closed = 31, 190
     for cycle in range(1, 226):
-        commanded = only(13) if 20 <= cycle < stuck else 0
-        driver = only(13) if 20 <= cycle else 0
+        commanded = only(29) if 20 <= cycle < stuck else 0
+        driver = only(29) if 20 <= cycle else 0
         pressure = driver if cycle < closed else 0
-        valves = ALL_OPEN if cycle < closed else ALL_OPEN - only(1)
+        valves = ALL_OPEN if cycle < closed else ALL_OPEN - only(7)
         blown_off = 8 * max(0, min(cycle, closed) - stuck) // 25
         feed.append(record(cycle, strings={1: (commanded, pressure, driver, valves)}, banks={1: (500 - blown_off, 500)}))
     return b"".join(feed)
 
 
 def hand_closed_valve():
-    """String 2, manifold 0: jet 3 fails off, then somebody closes the valve and opens it again; later jet 3 is re-enabled."""
-    feed = [map_bytes(HALL)]
+    """String 2, manifold 7: jet 3 fails off, then somebody closes the valve and opens it again; later jet 3 is re-enabled. The valve of
+    manifold 0, which has no jets, is closed from 60 on."""
+    feed = [map_bytes(UNEVEN)]
     for cycle in range(1, 151):
         commanded = pressure = 0
         if 10 <= cycle <= 12:
@@ -43,7 +47,7 @@ def hand_closed_valve():
             commanded = pressure = only(5)
         if 50 <= cycle < 60:
             commanded = only(5)  # behind a closed valve there is no pressure
-        valves = ALL_OPEN - only(0) if 40 <= cycle < 90 else ALL_OPEN
+        valves = ALL_OPEN - (only(7) if 40 <= cycle < 90 else 0) - (only(0) if 60 <= cycle else 0)
         requests = {2: (0, only(3))} if cycle == 125 else {}
         feed.append(record(cycle, strings={2: (commanded, pressure, 0, valves)}, requests=requests))
     return b"".join(feed)
@@ -106,13 +110,13 @@ def old_records(with_old=True):
 
 
 def below_zero():
-    """String 2, jet 21 leaks and its injector freezes, until manifold 2 is closed. Later, string 0, jet 4: the wire of its fuel transducer
+    """String 2, jet 21 leaks and its injector freezes, until manifold 5 is closed. Later, string 0, jet 4: the wire of its fuel transducer
     breaks and reads FFFF, though no gas flows."""
     feed = [map_bytes(HALL)]
     begins, closed, breaks = 40, 140, 180
     oxidizer = {50: 71, 75: -9, 100: -88, 125: -131, 150: -74, 175: 12, 200: 96, 225: 170, 250: 230, 275: 270}
     for cycle in range(1, 276):
-        valves = ALL_OPEN if cycle < closed else ALL_OPEN - only(2)
+        valves = ALL_OPEN if cycle < closed else ALL_OPEN - only(5)
         temps = {(2, 21): (300, word_of(oxidizer.get(cycle, 300)))}
         if breaks <= cycle:
             temps[(0, 4)] = (0xFFFF, 300)
@@ -142,22 +146,43 @@ def both_ways():
 
 
 def repair(without=()):
-    """String 2, jet 10 and string 0, jet 17: their drivers stay on until repaired. The first close bit is dropped at 125; the other
+    """String 2, jet 30 and string 0, jet 17: their drivers stay on until repaired. The first close bit is dropped at 125; the other
     too early at 150, in vain under a path fault at 200, and at 225. Without: cycles whose drop is left out."""
     feed = [map_bytes(HALL)]
-    dropped = {125: {2: only(1)}, 150: {0: only(2)}, 200: {0: only(2)}, 225: {0: only(2)}}
+    dropped = {125: {2: only(7)}, 150: {0: only(4)}, 200: {0: only(4)}, 225: {0: only(4)}}
     for cycle in range(1, 251):
         path = only(0) if 190 <= cycle < 210 else 0
-        closed_of_0 = only(2) if 110 <= cycle else 0
-        closed_of_2 = only(1) if 90 <= cycle < 160 or 180 <= cycle < 185 else 0
+        closed_of_0 = only(4) if 110 <= cycle else 0
+        closed_of_2 = only(7) if 90 <= cycle < 160 or 180 <= cycle < 185 else 0
         strings = {
             0: (0, 0, only(17) if 35 <= cycle < 160 else 0, ALL_OPEN - closed_of_0),
-            2: (0, 0, only(10) if 20 <= cycle < 110 else 0, ALL_OPEN - closed_of_2),
+            2: (0, 0, only(30) if 20 <= cycle < 110 else 0, ALL_OPEN - closed_of_2),
         }
-        requests = {2: (0, only(10))} if cycle == 175 else {}
+        requests = {2: (0, only(30))} if cycle == 175 else {}
         drops = {} if cycle in without else dropped.get(cycle, {})
         feed.append(record(cycle, path, strings, requests=requests, drops=drops))
     return b"".join(feed)
+
+
+def old_map(begin=map_bytes):
+    """The input of a table with four manifolds a string, one of them with jets, as it was recorded for such tables: with a map of 64 bytes,
+    four masks a string. String 1, jet 3: its driver stays on. Begin: what makes the map from those masks."""
+    jets = [(1, 0x0000FF00), (0, 0x000000FF), (2, 0x00FF0000), (1, 0x0000FF00)]
+    feed = [begin([[mask if i == its else 0 for i in range(4)] for its, mask in jets])]
+    for cycle in range(1, 101):
+        stuck = {1: only(3)} if 20 <= cycle else {}
+        feed.append(record(cycle, strings={s: (0, 0, stuck.get(s, 0), only(its)) for s, (its, _) in enumerate(jets)}))
+    return b"".join(feed)
+
+
+def with_zero_masks(old):
+    """The map of 128 bytes for a table of four manifolds: sixteen bytes of 00 behind each string's sixteen."""
+    return map_bytes([masks_of(*string) for string in old])
+
+
+def of_full_table(old):
+    """A map of 64 bytes whose strings all have the same jets: read as one of 128 bytes it is refused."""
+    return map_bytes([[0x000000FF, 0x0000FF00, 0x00FF0000, 0xFF000000]] * len(old))
 
 
 NIGHTS = {
@@ -169,6 +194,7 @@ NIGHTS = {
     "6-below-zero": below_zero,
     "7-both-ways": both_ways,
     "8-repair": repair,
+    "9-old-map": old_map,
 }
 
 

@@ -1,9 +1,9 @@
 #!/usr/bin/env python3
 """calls-nights.py > crates/calls/stdin: the nights to try of document 01 that are run and not proved, as scripts for the program `calls`,
-those of a jet named both ways and of close bits dropped (document 02, orders 4 and 6) that a call alone can show, and three that hand in
-whole halls which no run reaches.
+those of a jet named both ways, of close bits dropped and of eight manifolds (document 02, orders 4, 6 and 7) that a call alone can show,
+and three that hand in whole halls which no run reaches.
 
-A script is its kind (0: a start over the hall's masks, with its n; 1: the hall as it stands), a hall (420 bytes, crates/calls/src/layout.rt
+A script is its kind (0: a start over the hall's masks, with its n; 1: the hall as it stands), a hall (612 bytes, crates/calls/src/layout.rt
 has its places), the claimed held count (2), the store (619), the number of calls (2), and for each call the piece's length (2), the
 piece, the outbox's length (1) and its contents. Numbers have the high byte first.
 crates/calls/stdout is what the reference says to it: tests/reference, `ref_calls < crates/calls/stdin`. It is never made by `calls`."""
@@ -11,14 +11,16 @@ import struct
 import sys
 
 import records
-from records import ALL_OPEN, map_bytes
+from records import ALL_OPEN, MANIFOLDS, STRINGS, map_bytes, masks_of
 
 STORE = 619
 LAST = 4294967295
 # string 0, manifold 0 = 0000000F, others zero
-MAP = map_bytes([[0x0000000F, 0, 0, 0], [0] * 4, [0] * 4, [0] * 4])
+MAP = map_bytes([masks_of(0x0000000F), masks_of(), masks_of(), masks_of()])
 # string 0, manifolds 0 and 1 share jet 3
-REFUSED = map_bytes([[0x0000000F, 0x00000008, 0, 0], [0] * 4, [0] * 4, [0] * 4])
+REFUSED = map_bytes([masks_of(0x0000000F, 0x00000008), masks_of(), masks_of(), masks_of()])
+# a jet on each manifold of each string
+ONE_OF_EACH = map_bytes([[1 << i for i in range(MANIFOLDS)]] * STRINGS)
 
 
 def minor(wire, commanded=0):
@@ -36,8 +38,14 @@ def outbox(length):
     return bytes(0xC0 + place % 64 for place in range(length))
 
 
-def standing(fail=0, valves=ALL_OPEN, saved=(0, 0, 0, 0)):
-    return struct.pack(">6I", fail, valves, *saved)
+def sharing(one, other, jet=31):
+    """A map that is refused for one jet that these two manifolds of string 3 both have."""
+    return map_bytes([masks_of()] * 3 + [[1 << jet if i in (one, other) else 1 << i for i in range(MANIFOLDS)]])
+
+
+def standing(fail=0, valves=ALL_OPEN, saved=()):
+    """Saved: the sets of the lowest manifolds; those of the others are empty."""
+    return struct.pack(f">{2 + MANIFOLDS}I", fail, valves, *masks_of(*saved))
 
 
 def string(now=standing(), good=standing(), off=(0, 0, 0), on=(0, 0), recheck=0, inhibit=0, reenable=0, close=0, lost=0):
@@ -47,7 +55,7 @@ def string(now=standing(), good=standing(), off=(0, 0, 0), on=(0, 0), recheck=0,
 
 def hall(masks=MAP, n=0, strings={}, banks=bytes(12)):
     """strings: {string: bytes}; those not given are fresh."""
-    return struct.pack(">I", n) + masks + b"".join(strings.get(s, string()) for s in range(records.STRINGS)) + banks
+    return struct.pack(">I", n) + masks + b"".join(strings.get(s, string()) for s in range(STRINGS)) + banks
 
 
 def script(calls, masks=MAP, n=0, count=0, store=bytes(STORE), whole=None):
@@ -118,16 +126,48 @@ nights = [
         whole=hall(n=49, strings={0: string(standing(1), standing(1), on=(1, 1), recheck=1)}),
     ),
     # Drops take away the close bits that they name, of a manifold without jets too, and nothing else: string 0 loses one, string 1 some,
-    # string 2 none, for its path has failed, string 3 all four; the bits above the manifolds stay. A record that names a jet both ways does
-    # none of it, one with a reserved drop bit loses a byte and is not read.
+    # string 2 none, for its path has failed, string 3 all eight; the bits above the manifolds stay. A record that names a jet both ways
+    # does none of it, one with a reserved path bit loses a byte and is not read.
     script(
         [
-            (records.major(25, requests={0: (1, 1)}, drops={s: 0x0F for s in range(records.STRINGS)}), 34),
-            (records.major(25, drops={0: 0x0F, 1: 0x1F}), 34),
-            (records.major(25, 0b0100, drops={0: 0b0001, 1: 0b1010, 2: 0x0F, 3: 0x0F}), 34),
+            (records.major(25, requests={0: (1, 1)}, drops={s: ALL_OPEN for s in range(STRINGS)}), 34),
+            (records.major(25, 0x80, drops={0: ALL_OPEN, 1: 0x1F}), 34),
+            (records.major(25, 0b0100, drops={0: 0b10000000, 1: 0b01011010, 2: ALL_OPEN, 3: ALL_OPEN}), 34),
         ],
-        whole=hall(n=24, strings={s: string(close=0xABCD120F) for s in range(records.STRINGS)}),
+        whole=hall(n=24, strings={s: string(close=0xABCD12FF) for s in range(STRINGS)}),
     ),
+    # Manifold 7 closes and opens as manifold 0 does: jet 7 fails, and is good again; jet 6, failed before, stays so when manifold 6 opens.
+    # Bit 7 is no reserved bit: all four records are read.
+    script(
+        [
+            (records.minor(n, strings={s: (0, 0, 0, valves) for s in (0, 3)}), 34)
+            for n, valves in ((1, 0x7F), (2, 0x3E), (3, 0xBF), (4, 0xFF))
+        ],
+        whole=hall(ONE_OF_EACH, strings={3: string(standing(0x40), standing(0x40))}),
+    ),
+    # Jet 7 is bad for the third time and its manifold gets close bit 7, in string 1 alone. Drops of all others leave it, its own does not.
+    script(
+        [
+            (records.major(75, strings={1: (0, 0, 0x80, ALL_OPEN)}), 34),
+            (records.major(100, drops={0: 0x80, 1: 0x7F, 2: 0x80, 3: 0x80}), 34),
+            (records.major(125, drops={1: 0x80}), 34),
+        ],
+        whole=hall(ONE_OF_EACH, n=74, strings={1: string(standing(0x80), standing(0x80), on=(0x80, 0x80), recheck=0x80)}),
+    ),
+    # At fresh all eight are remembered as open: the first record finds the upper four closed. Then the path fails and is back: the record
+    # is compared with the valves of the good copy, all open.
+    script(
+        [
+            (records.minor(1, strings={s: (0, 0, 0, 0x0F) for s in range(STRINGS)}), 34),
+            (records.minor(2, 0x0F), 34),
+            (records.minor(3, strings={s: (0, 0, 0, 0xF0) for s in range(STRINGS)}), 34),
+        ],
+        masks=ONE_OF_EACH,
+    ),
+    # A jet that two of the upper manifolds share is enough for answer 6.
+    *(script([(minor(1), 34)], masks=sharing(one, other)) for one, other in ((5, 6), (0, 7), (4, 7))),
+    # The same jet on manifold 7 of one string and 3 of another is none.
+    script([(minor(1), 34)], masks=map_bytes([masks_of(), masks_of(0, 0, 0, 8), [0] * 7 + [8], masks_of()])),
     # Jet 0 is bad for the third time and jet 1 for the second, and the drop is asked for in both records: the bit comes back at once by jet
     # 0, then by jet 1. With both good it goes, and a last drop finds nothing.
     script(
@@ -141,16 +181,16 @@ nights = [
     ),
     # A hall handed in whose manifold 0 is remembered closed and has a saved set beyond its mask: all of it leaves the fail word, and the
     # set stays. Jets 16 and 17 are in no mask: the report does not show them, the hall does.
-    script([(minor(1), 34), (minor(2), 34)], whole=hall(strings={0: string(standing(0x0003001F, 0xFFFFFFFE, (0x00010013, 0, 0, 0)))})),
+    script([(minor(1), 34), (minor(2), 34)], whole=hall(strings={0: string(standing(0x0003001F, 0xFFFFFFFE, (0x00010013,)))})),
     # Masks that overlap, lowest first: manifold 0 closes and saves jets 0 and 1, then 1 opens, and its saved jets 1 and 2 leave the fail
     # word again. A start over these masks answers 6. In string 1 a lost path: the good copy comes back, all bits of the close word stay.
     script(
-        [(records.minor(1, strings={0: (0, 0, 0, 0b1110)}), 34)],
+        [(records.minor(1, strings={0: (0, 0, 0, ALL_OPEN - 1)}), 34)],
         whole=hall(
-            map_bytes([[0x3, 0x6, 0, 0], [0xF0, 0, 0, 0], [0] * 4, [0] * 4]),
+            map_bytes([masks_of(0x3, 0x6), masks_of(0xF0), masks_of(), masks_of()]),
             strings={
-                0: string(standing(0, 0b1101, (0x80, 0x6, 0, 0))),
-                1: string(standing(0x10, 0, (1, 2, 3, 4)), standing(0x60, 0xF0F, (5, 6, 7, 8)), (1, 2, 3), (4, 5), 6, 7, 8, 0xABCD1230, 9),
+                0: string(standing(0, ALL_OPEN - 2, (0x80, 0x6))),
+                1: string(standing(0x10, 0, (1, 2, 3, 4)), standing(0x60, 0xFFF, range(5, 13)), (1, 2, 3), (4, 5), 6, 7, 8, 0xABCD1230, 9),
             },
         ),
     ),
@@ -165,7 +205,7 @@ nights = [
             n=24,
             strings={
                 0: string(
-                    standing(0x20, ALL_OPEN, (0x20,) * 4), standing(), (0x20,) * 3, (0x22,) * 2, 0x22, 0x21, 0x21, close=0x100
+                    standing(0x20, ALL_OPEN, (0x20,) * MANIFOLDS), standing(), (0x20,) * 3, (0x22,) * 2, 0x22, 0x21, 0x21, close=0x100
                 )
             },
             banks=bytes.fromhex("01010FFF00010400FF02FFFF"),

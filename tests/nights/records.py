@@ -1,9 +1,10 @@
 """The bytes of a map and of records, for every script here that writes a feed. docs/FORMATS.md has them place by place."""
 import struct
 
-STRINGS, JETS, MANIFOLDS, MODULES = 4, 32, 4, 3
+STRINGS, JETS, MANIFOLDS, MODULES = 4, 32, 8, 3
 MAJOR_EVERY = 25
-ALL_OPEN = 0x0F
+# a byte with the bit of every manifold
+ALL_OPEN = (1 << MANIFOLDS) - 1
 # commanded, pressure, driver, valves
 QUIET = (0, 0, 0, ALL_OPEN)
 WARM = (64, 64)
@@ -16,8 +17,13 @@ def word_of(number):
     return int.from_bytes(struct.pack(">h", number), "big")
 
 
+def masks_of(*low):
+    """The masks of a string: these of its lowest manifolds, and 0 for the others."""
+    return list(low) + [0] * (MANIFOLDS - len(low))
+
+
 def map_bytes(masks):
-    """The sixteen masks, string by string."""
+    """The masks of every manifold, string by string."""
     return b"".join(struct.pack(">I", mask) for string in masks for mask in string)
 
 

@@ -2,13 +2,19 @@
 """Writes the night that the gate runs `watch` and `plainwatch` on: the map, then twelve seconds of feed with the mishaps that the monitor
 is for.
 
-String 0 has four jets on manifold 0 and four on manifold 1; string 1 has one jet on manifold 3.
+String 0 has four jets on manifold 0 and four on manifold 1; string 1 has one jet on manifold 3 and three on manifold 7; string 2 has one on
+each of its eight manifolds.
 """
 import sys
 
-from records import map_bytes, record, word_of
+from records import ALL_OPEN, JETS, MANIFOLDS, map_bytes, masks_of, record, word_of
 
-MASKS = [[0x0000000F, 0x000000F0, 0, 0], [0, 0, 0, 0x80000000], [0] * 4, [0] * 4]
+MASKS = [
+    masks_of(0x0000000F, 0x000000F0),
+    masks_of(0, 0, 0, 0x80000000, 0, 0, 0, 0x00000700),
+    [1 << JETS // MANIFOLDS * i for i in range(MANIFOLDS)],
+    masks_of(),
+]
 
 
 def night():
@@ -16,13 +22,26 @@ def night():
     for cycle in range(1, 301):
         strings, path, temps, requests, banks, drops = {}, 0, {}, {}, {}, {}
         if 3 <= cycle <= 5:
-            strings[0] = (0x04, 0, 0, 15)  # jet 2 is commanded and has no pressure: failed off at 5
+            strings[0] = (0x04, 0, 0, ALL_OPEN)  # jet 2 is commanded and has no pressure: failed off at 5
         if 40 <= cycle < 60:
-            strings[0] = (0, 0, 0, 14)  # manifold 0's valve is closed by hand, and opened again
+            strings[0] = (0, 0, 0, ALL_OPEN - 1)  # manifold 0's valve is closed by hand, and opened again
+        if 7 <= cycle <= 9:
+            strings[1] = (0x0200, 0, 0, ALL_OPEN)  # jet 9 of string 1 fails off at 9
+        if 45 <= cycle < 65:
+            strings[1] = (0, 0, 0, ALL_OPEN - 0x80)  # manifold 7's valve is closed too, and opened again: jet 9 stays failed
+        if 85 <= cycle < 95:
+            strings[2] = (0, 0, 0, 0x0F if cycle < 90 else 0)  # the upper four valves of string 2 close, then all
         if cycle in (100, 125, 150):
-            strings[0] = (0, 0, 0x20, 15)  # the driver of jet 5 stays on: failed at 125, manifold 1 to be closed at 150
+            strings[0] = (0, 0, 0x20, ALL_OPEN)  # the driver of jet 5 stays on: failed at 125, manifold 1 to be closed at 150
+            # those of jets 10 of string 1 and 20 of string 2 do too: manifolds 7 and 5 to be closed
+            strings[1] = (0, 0, 0x0400, ALL_OPEN)
+            strings[2] = (0, 0, 0x00100000, ALL_OPEN)
         if cycle == 175:
             drops[0] = 0b0010  # jet 5 is repaired, and the close bit of its manifold dropped
+            drops[1] = 0b01110111  # not that of manifold 7
+            drops[2] = 0b11011111  # nor that of manifold 5
+        if cycle == 200:
+            drops[1], drops[2] = 0b10000000, ALL_OPEN  # now they are
         if cycle in (150, 175, 200, 225):
             # jet 31 of string 1 leaks, and its injector falls below zero: failed at 175, manifold 3 to be closed at 200
             temps[(1, 31)] = ({150: 63, 175: word_of(-1), 200: word_of(-32768), 225: 12}[cycle], 500)
@@ -38,7 +57,7 @@ def night():
             # first named both ways: refused, and sent again
             out.append(record(cycle, path, strings, temps, {0: (0x04, 0x04)}, banks, drops))
         if cycle == 275:
-            out.append(record(cycle, drops={2: 0x10}))  # first with a reserved drop bit: not read, and sent again
+            out.append(record(cycle, path=0x10, drops={2: 0x10}))  # first with a reserved path bit: not read, and sent again
         whole = record(cycle, path, strings, temps, requests, banks, drops)
         if cycle == 30:
             out.append(whole[:31])  # a cable is pulled in the middle of a record

@@ -3,13 +3,13 @@
 
 A request is its kind (0: a minor record, 1: a major), the outbox's length (2, at most 1,024), the byte that fills the outbox beforehand
 (1), and the record's values in its order, without mark and sum (55 or 615). Numbers have the high byte first. The answers are 0 written,
-1 a reserved bit, 2 a quantity above 1,000, 3 an outbox too short.
+1 a reserved bit of the path byte, 2 a quantity above 1,000, 3 an outbox too short.
 crates/writes/stdout is what the reference says to it: tests/reference, `ref_writes < crates/writes/stdin`. It is never made by `writes`."""
 import struct
 import sys
 
 import records
-from records import ALL_OPEN, JETS, MODULES, STRINGS
+from records import ALL_OPEN, JETS, MANIFOLDS, MODULES, STRINGS
 
 MINOR, MAJOR = 59, 619
 LONGEST = 1024
@@ -37,7 +37,7 @@ def numbered(place, count):
 
 first = records.minor(1)
 # every value has its own number, so that each shows its place
-own_strings = {s: numbered(s, 3) + (1 << s,) for s in range(STRINGS)}
+own_strings = {s: numbered(s, 3) + (0x11 << s,) for s in range(STRINGS)}
 own_minor = records.minor(0xABCD, 0b1010, own_strings)
 own_major = records.major(
     0xABCE,
@@ -46,7 +46,7 @@ own_major = records.major(
     {(s, j): (0x4000 + 256 * s + j, 0x8000 + 256 * s + j) for s in range(STRINGS) for j in range(JETS)},
     {s: numbered(s + 8, 2) for s in range(STRINGS)},
     {m: (900 + m, 800 + m) for m in range(MODULES)},
-    {s: 0b1001 + s for s in range(STRINGS)},
+    {s: 0b10001001 + 0x11 * s for s in range(STRINGS)},
 )
 # the bytes come to more than 65,535
 heavy = records.major(
@@ -56,10 +56,10 @@ heavy = records.major(
     {(s, j): (0xFFFF, 0xFFFF) for s in range(STRINGS) for j in range(JETS)},
     {s: (0xFFFFFFFF, 0xFFFFFFFF) for s in range(STRINGS)},
     {m: FULL for m in range(MODULES)},
-    {s: 0x0F for s in range(STRINGS)},
+    {s: ALL_OPEN for s in range(STRINGS)},
 )
-# a valve byte with bit 7, a quantity of 1,001
-both_wrong = records.major(25, strings=valves(3, 0x8F), banks={2: (500, 1001)})
+# a path byte with bit 7, a quantity of 1,001
+both_wrong = records.major(25, 0x8F, banks={2: (500, 1001)})
 
 requests = [
     # The first record of the nights: written into just enough, one byte more, the longest outbox; one byte too few, none.
@@ -78,20 +78,16 @@ requests = [
     request(records.major(25), LONGEST),
     # Quantities of 1,000 are written, and every bit that may be set; a sum above 65,535 loses what is beyond.
     request(heavy, MAJOR + 1, 0xFF),
-    # A reserved bit: the lowest and the highest, in the path byte and in the valves of the first and the last string.
-    request(records.minor(1, 0x10)),
+    # A reserved bit: each of the four of the path byte, of both kinds, alone and with paths that have failed.
+    *(request(records.minor(1, 0x10 << bit)) for bit in range(4)),
+    *(request(records.major(25, 0x10 << bit), LONGEST) for bit in range(4)),
     request(records.minor(1, 0x8F)),
-    request(records.minor(1, strings=valves(0, 0x1F))),
-    request(records.minor(1, strings=valves(3, 0x80))),
-    request(records.major(25, strings=valves(1, 0x2F)), LONGEST),
-    # A reserved drop bit: each of the four in some string, and with drops that may be asked for.
-    request(records.major(25, drops={0: 0x10})),
-    request(records.major(25, drops={1: 0x20}), LONGEST),
-    request(records.major(25, drops={2: 0x40})),
-    request(records.major(25, drops={3: 0x80})),
-    request(records.major(25, drops={0: 0x0F, 3: 0xFF})),
-    # Drops are written: of each string alone, whether a manifold is to be closed or not.
-    *(request(records.major(25, drops={s: 1 << s})) for s in range(STRINGS)),
+    request(records.major(25, 0xFF)),
+    # No bit of a valve byte or of a drop byte is reserved: each manifold's is written, alone and with the others.
+    *(request(records.minor(1, strings=valves(i % STRINGS, 1 << i))) for i in range(MANIFOLDS)),
+    *(request(records.major(25, strings=valves(i % STRINGS, ALL_OPEN - (1 << i)))) for i in range(MANIFOLDS)),
+    *(request(records.major(25, drops={i % STRINGS: 1 << i})) for i in range(MANIFOLDS)),
+    request(records.major(25, drops={s: ALL_OPEN - s for s in range(STRINGS)}), LONGEST),
     # A quantity above 1,000: the first fuel, the last oxidizer, all bits.
     request(large(0, 1001, 1000), LONGEST),
     request(large(2, 1000, 1001), LONGEST),
@@ -101,7 +97,9 @@ requests = [
     request(both_wrong),
     request(both_wrong, 100),
     request(records.major(25, 0x40), MAJOR - 1),
-    request(records.major(25, banks={0: (1001, 500)}, drops={2: 0x1F}), MAJOR - 1),
+    request(records.major(25, 0x1F, banks={0: (1001, 500)}, drops={2: 0x1F}), MAJOR - 1),
+    request(records.major(25, strings=valves(3, 0xF0), banks={0: (1001, 500)}, drops={2: 0xF0}), MAJOR - 1),
+    request(records.major(25, strings=valves(3, 0xF0), drops={2: 0xF0}), MAJOR - 1),
     request(large(2, 500, 1001), MAJOR - 1),
     # What a monitor may refuse is written: kinds that do not fit the cycle, jets named both ways, cold injectors, closed valves.
     request(records.minor(25, strings=valves(2, 0))),

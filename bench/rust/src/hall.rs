@@ -1,17 +1,18 @@
 //! Four strings of 32 jets on packed words, jet j being bit j, and the nitrogen banks.
 
+use crate::leaks::leaking;
 use crate::record::*;
 
 const STRINGS: usize = 4;
-const MANIFOLDS: usize = 4;
+/// Manifolds of a string; a byte has a bit for each.
+const MANIFOLDS: usize = 8;
+const ALL_OPEN: u8 = ((1 << MANIFOLDS) - 1) as u8;
+const MASK_LENGTH: usize = 4;
+pub const MASKS_LENGTH: usize = STRINGS * MANIFOLDS * MASK_LENGTH;
 const MODULES: usize = 3;
 const MAJOR_EVERY: u32 = 25;
-/// A temperature word up to this, as a signed number, shows a leak.
-const LEAKS_UP_TO: i16 = 63;
 const MOST_APART: u16 = 16;
 pub const REPORT_LENGTH: usize = 34;
-/// As many temperature words as the compiler tests at once.
-const LANES: usize = 8;
 
 const TAKEN: u8 = 0;
 const STALE: u8 = 1;
@@ -62,8 +63,9 @@ struct Next {
 impl Hall {
     /// A fresh hall over the map, unless two masks of a string share a jet.
     pub fn over(masks: &[u8]) -> Option<Hall> {
-        let strings =
-            std::array::from_fn(|s| JetString::over(std::array::from_fn(|i| word(masks, 16 * s + 4 * i))));
+        let strings = std::array::from_fn(|s| {
+            JetString::over(std::array::from_fn(|i| word(masks, MASK_LENGTH * (MANIFOLDS * s + i))))
+        });
         let overlap = strings.iter().any(|string: &JetString| {
             string.masks.iter().map(|mask| mask.count_ones()).sum::<u32>() != string.mapped.count_ones()
         });
@@ -210,7 +212,7 @@ impl Hall {
 
 impl JetString {
     fn over(masks: [u32; MANIFOLDS]) -> JetString {
-        let standing = Standing { fail: 0, valves: 0x0F, saved: [0; MANIFOLDS] };
+        let standing = Standing { fail: 0, valves: ALL_OPEN, saved: [0; MANIFOLDS] };
         JetString {
             masks,
             mapped: masks.iter().fold(0, |mapped, mask| mapped | mask),
@@ -280,13 +282,22 @@ impl JetString {
         let (commanded, driver) = (word(record, sample), word(record, sample + 8));
         let bad = self.mapped & !commanded & (driver | self.leaking(record, s));
         let close = self.recheck & bad & !self.reenable;
-        for (i, mask) in self.masks.iter().enumerate() {
-            self.close |= u8::from(mask & close != 0) << i;
+        // A manifold that has to be closed is rare.
+        if close != 0 {
+            self.close_manifolds(close);
         }
         self.recheck = bad & self.on & !self.reenable;
         self.on = bad;
         self.standing.fail |= self.recheck;
         self.good = self.standing;
+    }
+
+    /// Step 6 for the jets that ask for it.
+    #[cold]
+    fn close_manifolds(&mut self, jets: u32) {
+        for (i, mask) in self.masks.iter().enumerate() {
+            self.close |= u8::from(mask & jets != 0) << i;
+        }
     }
 
     /// The jets of which a temperature word shows a leak, where any jet is mapped. All 32 are tested, mapped or not,
@@ -296,22 +307,6 @@ impl JetString {
             return 0;
         }
         let from = TEMPERATURES + TEMPERATURES_LENGTH * s;
-        let (low, high) = record[from..from + TEMPERATURES_LENGTH].split_at(TEMPERATURES_LENGTH / 2);
-        let lanes = half_good(low).into_iter().zip(half_good(high));
-        !lanes.fold(u32::MAX, |good, (low, high)| good & (u32::from(low) | u32::from(high) << 16))
+        leaking(&record[from..from + TEMPERATURES_LENGTH])
     }
-}
-
-/// Sixteen jets, in lanes as wide as a word, so that the compiler tests eight words at once. Each lane takes every
-/// eighth word, and clears the jet that one shows leaking: to keep the good ones costs less than to gather the others.
-fn half_good(temperatures: &[u8]) -> [u16; LANES] {
-    let mut lanes = [u16::MAX; LANES];
-    for (i, words) in temperatures.chunks_exact(2 * LANES).enumerate() {
-        for (l, (lane, word)) in lanes.iter_mut().zip(words.chunks_exact(2)).enumerate() {
-            let jet = (LANES * i + l) / 2;
-            let leaks = i16::from_be_bytes(word.try_into().expect("two bytes each")) <= LEAKS_UP_TO;
-            *lane &= if leaks { !(1 << jet) } else { u16::MAX };
-        }
-    }
-    lanes
 }

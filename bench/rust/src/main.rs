@@ -2,15 +2,15 @@
 //! feed from standard input, the reports to standard output. Nothing of it is proved.
 
 mod hall;
+mod leaks;
 mod record;
 
-use hall::{Hall, Report, REPORT_LENGTH};
+use hall::{Hall, Report, MASKS_LENGTH, REPORT_LENGTH};
 use record::{look, Look, MINOR_LENGTH};
 use std::fs::File;
 use std::io::{self, stdin, stdout, ErrorKind, Read, Write};
 use std::os::fd::AsFd;
 
-const MASKS_LENGTH: usize = 64;
 const BUFFER_LENGTH: usize = 65_536;
 /// The buffer has no more records than this.
 const MOST_RECORDS: usize = BUFFER_LENGTH / MINOR_LENGTH;

@@ -39,9 +39,7 @@ pub fn look(feed: &[u8]) -> Look<'_> {
         },
         [MARK, MAJOR_MARK, ..] => match feed.first_chunk() {
             None => Look::Waits,
-            Some(record) if drops_right(record) && good(record) && quantities_right(record) => {
-                Look::Major(record)
-            }
+            Some(record) if good(record) && quantities_right(record) => Look::Major(record),
             Some(_) => Look::Drops(1),
         },
         [_, ref later @ ..] => {
@@ -51,22 +49,13 @@ pub fn look(feed: &[u8]) -> Look<'_> {
     }
 }
 
-/// Are the reserved bits and the sum right? The bits first: they are the cheaper test.
+/// Are the reserved bits, those of the path byte, and the sum right? The bits first: they are the cheaper test.
 fn good<const LENGTH: usize>(record: &[u8; LENGTH]) -> bool {
-    let mut reserved = record[PATH];
-    for string in 0..4 {
-        reserved |= record[SAMPLES + string * SAMPLE_LENGTH + 12];
-    }
-    reserved < 16 && sum(&record[..LENGTH - 2]) == half_word(record, LENGTH - 2)
+    record[PATH] < 16 && sum(&record[..LENGTH - 2]) == half_word(record, LENGTH - 2)
 }
 
 fn sum(bytes: &[u8]) -> u16 {
     bytes.iter().fold(0, |sum, &byte| sum.wrapping_add(byte.into()))
-}
-
-/// Are the reserved bits of the four drop bytes clear?
-fn drops_right(record: &MajorRecord) -> bool {
-    word(record, DROPS) & 0xF0F0_F0F0 == 0
 }
 
 fn quantities_right(record: &MajorRecord) -> bool {

@@ -1,11 +1,13 @@
 -- A hall's parts read and laid out, over plain values: what the fields are, and the parts one behind the other. Assumes nothing.
-use mathlib.Core.Path.{_≡_, refl, ap, ap₂, _∙_}
+use mathlib.Core.Path.{_≡_, refl, sym, ap, ap₂, _∙_}
 use mathlib.Core.Bool.{Bool}
 use mathlib.Core.List.{List, [], _∷_, _++_, append-assoc, append-nil}
-use Prim.Native.Nat.{ℕ, _+_, _*_}
+use Prim.Native.Nat.{ℕ, zero, suc, _+_, _*_}
+use native.Mathlib.Nat.{add-zero, add-suc}
 use native.Mathlib.Omega.{arith}
 use borrow.Rule.Slice.PartMut.{putMid}
-use lib.ListN.{length, getD, drop, drop-of-length-le, length-append}
+use lib.ListN.{length, getD, drop, drop-of-length-le, length-append, List·getD-append}
+use Rattle.cycle.specs.Size.{stringCount, manifoldCount, moduleCount}
 use Rattle.cycle.specs.Each.{table}
 use Rattle.cycle.specs.Map.{masksOf}
 use Rattle.cycle.specs.Hall.{pastString}
@@ -14,11 +16,14 @@ use Rattle.cycle.specs.declared.hall.Hall.{Hall}
 use Rattle.cycle.specs.declared.map.Masks.{Masks}
 use Rattle.cycle.specs.declared.string.Standing.{Standing}
 use Rattle.cycle.specs.declared.string.StringState.{StringState}
-use Rattle.feed.specs.Bytes.{two, four, inFour}
-use Rattle.feed.proofs.Reports.Parts.{parts-length}
+use Rattle.feed.specs.Size.{wordLength, masksLength, mapLength}
+use Rattle.feed.specs.Bytes.{two, four, inFour, parts}
+use Rattle.feed.proofs.Reports.Parts.{getD-past, parts-length, parts-same}
 use Rattle.feed.proofs.Reports.Written.{put-next}
+use Rattle.calls.specs.Layout.{standingWords, offFrom, onFrom, overFrom, closeAt, stringWords, wordsLength}
+use Rattle.calls.specs.Layout.{stringLength, bankLength, masksFrom, stringsFrom, banksFrom, hallLength}
 use Rattle.calls.specs.Layout.{flagIn, wordIn, perManifold, standingIn, stringIn, masksIn, bankIn, hallIn}
-use Rattle.calls.specs.Layout.{inWords, stringWordsOf, inString, inBank, inMap, inStrings, inBanks, inHall}
+use Rattle.calls.specs.Layout.{inFlag, inWords, stringWordsOf, inString, inBank, inMap, inStrings, inBanks, inHall}
 
 -- ---- read
 
@@ -27,9 +32,10 @@ module _ (l : List ℕ) (i : ℕ) where
       → _≡_ {A = Standing} (record { fail = f; valves = v; saved = s }) (standingIn l i k)
   standing-read k e f g = rw (e, f, g) refl
 
-  pub string-read : {s g : Standing} {a b c d e f p q w : ℕ} {t : Bool} → s ≡ standingIn l i 0 → g ≡ standingIn l i 6
-      → a ≡ wordIn l i 12 → b ≡ wordIn l i 13 → c ≡ wordIn l i 14 → d ≡ wordIn l i 15 → e ≡ wordIn l i 16 → f ≡ wordIn l i 17
-      → p ≡ wordIn l i 18 → q ≡ wordIn l i 19 → w ≡ wordIn l i 20 → t ≡ flagIn l (i + 84)
+  pub string-read : {s g : Standing} {a b c d e f p q w : ℕ} {t : Bool} → s ≡ standingIn l i 0 → g ≡ standingIn l i standingWords
+      → a ≡ wordIn l i offFrom → b ≡ wordIn l i (offFrom + 1) → c ≡ wordIn l i (offFrom + 2)
+      → d ≡ wordIn l i onFrom → e ≡ wordIn l i (onFrom + 1) → f ≡ wordIn l i (onFrom + 2)
+      → p ≡ wordIn l i overFrom → q ≡ wordIn l i (overFrom + 1) → w ≡ wordIn l i closeAt → t ≡ flagIn l (i + wordsLength)
       → _≡_ {A = StringState}
       (record {
         standing = s;
@@ -50,49 +56,83 @@ module _ (l : List ℕ) (i : ℕ) where
       → _≡_ {A = Bank} (record { unbalanced = u; oxidizer = o; lesser = q }) (bankIn l i)
   bank-read e f g = rw (e, f, g) refl
 
-pub hall-read : (l : List ℕ) {n : ℕ} {a b c d : Masks} {p q r s : StringState} {x y z : Bank} → a ≡ masksIn l 4 → b ≡ masksIn l 20
-    → c ≡ masksIn l 36 → d ≡ masksIn l 52 → p ≡ stringIn l 68 → q ≡ stringIn l 153 → r ≡ stringIn l 238 → s ≡ stringIn l 323
-    → x ≡ bankIn l 408 → y ≡ bankIn l 412 → z ≡ bankIn l 416 → n ≡ four l 0
-    → _≡_ {A = Hall}
-    (record { n = n; masks = a ∷ b ∷ c ∷ d ∷ []; strings = p ∷ q ∷ r ∷ s ∷ []; banks = x ∷ y ∷ z ∷ [] })
-    (hallIn l)
-unfolding hallIn table
-hall-read l h₁ h₂ h₃ h₄ h₅ h₆ h₇ h₈ h₉ h₁₀ h₁₁ h₁₂ = rw (h₁, h₂, h₃, h₄, h₅, h₆, h₇, h₈, h₉, h₁₀, h₁₁, h₁₂) refl
+-- the masks of string s, string s and bank m
+module _ (l : List ℕ) where
+  abbrev pub masksNo : ℕ → Masks
+  masksNo s = masksIn l (masksFrom + masksLength * s)
+
+  abbrev pub stringNo : ℕ → StringState
+  stringNo s = stringIn l (stringsFrom + stringLength * s)
+
+  abbrev pub bankNo : ℕ → Bank
+  bankNo m = bankIn l (banksFrom + bankLength * m)
+
+  pub hall-read : {n : ℕ} {a b c d : Masks} {p q r s : StringState} {x y z : Bank} → a ≡ masksNo 0 → b ≡ masksNo 1 → c ≡ masksNo 2
+      → d ≡ masksNo 3 → p ≡ stringNo 0 → q ≡ stringNo 1 → r ≡ stringNo 2 → s ≡ stringNo 3 → x ≡ bankNo 0 → y ≡ bankNo 1
+      → z ≡ bankNo 2 → n ≡ four l 0
+      → _≡_ {A = Hall}
+      (record { n = n; masks = a ∷ b ∷ c ∷ d ∷ []; strings = p ∷ q ∷ r ∷ s ∷ []; banks = x ∷ y ∷ z ∷ [] })
+      (hallIn l)
+  unfolding hallIn table
+  hall-read h₁ h₂ h₃ h₄ h₅ h₆ h₇ h₈ h₉ h₁₀ h₁₁ h₁₂ = rw (h₁, h₂, h₃, h₄, h₅, h₆, h₇, h₈, h₉, h₁₀, h₁₁, h₁₂) refl
 
 -- ---- the parts' lengths
 
-pub bank-length : (x : Bank) → length (inBank x) ≡ 4
+pub bank-length : (x : Bank) → length (inBank x) ≡ bankLength
 unfolding inBank
 bank-length x = refl
 
-pub words-length : (n : ℕ) (w : List ℕ) → length (inWords n w) ≡ 4 * n
-words-length n w = parts-length 4 (λ k. inFour (getD w k 0)) (λ k. refl) n
+pub words-length : (n : ℕ) (w : List ℕ) → length (inWords n w) ≡ wordLength * n
+words-length n w = parts-length wordLength (λ k. inFour (getD w k 0)) (λ k. refl) n
 
-pub string-length : (x : StringState) → length (inString x) ≡ 85
+pub string-length : (x : StringState) → length (inString x) ≡ stringLength
 unfolding inString
-string-length x = length-append (inWords 21 (stringWordsOf x)) _ ∙ ap (λ (m : ℕ). m + 1) (words-length 21 (stringWordsOf x))
+string-length x =
+    length-append (inWords stringWords (stringWordsOf x)) (inFlag (x .lost) ∷ [])
+    ∙ ap (λ (m : ℕ). m + 1) (words-length stringWords (stringWordsOf x))
+
+pub map-length : (masks : List Masks) → length (inMap masks) ≡ mapLength
+map-length masks =
+    parts-length masksLength (λ s. inWords manifoldCount (masksOf masks s)) (λ s. words-length manifoldCount (masksOf masks s)) stringCount
+
+pub strings-length : (strings : List StringState) → length (inStrings strings) ≡ stringLength * stringCount
+strings-length strings =
+    parts-length stringLength (λ s. inString (getD strings s pastString)) (λ s. string-length (getD strings s pastString)) stringCount
+
+-- ---- the words of two lists, one behind the other
+
+pub words-append : (u w : List ℕ) (m n : ℕ) → length u ≡ m → inWords m u ++ inWords n w ≡ inWords (m + n) (u ++ w)
+unfolding parts
+words-append u w m zero e =
+    append-nil (inWords m u)
+    ∙ parts-same (λ k. inFour (getD u k 0)) (λ k. inFour (getD (u ++ w) k 0)) m
+    (λ k b. ap inFour (sym (List·getD-append u w 0 k (omega (arith, e)))))
+    ∙ ap (λ (j : ℕ). inWords j (u ++ w)) (sym (add-zero m))
+words-append u w m (suc n) e =
+    sym (append-assoc (inWords m u) (inWords n w) (inFour (getD w n 0)))
+    ∙ ap₂ (λ (p q : List ℕ). p ++ q) (words-append u w m n e) (ap inFour (sym (getD-past u w m n e)))
+    ∙ ap (λ (j : ℕ). inWords j (u ++ w)) (sym (add-suc m n))
 
 -- ---- the whole: n, masks, strings and banks put one behind the other into a slice of their length
 
 module _ (d : List ℕ) (h : Hall) (y p s b : List ℕ) where
-  pub hall-laid : length d ≡ 420 → y ≡ inFour (h .n) → p ≡ inMap (h .masks) → s ≡ inStrings (h .strings) → b ≡ inBanks (h .banks)
-      → putMid 408 12 (putMid 68 340 (putMid 4 64 (y ++ drop 4 d) p) s) b ≡ inHall h
+  pub hall-laid : length d ≡ hallLength → y ≡ inFour (h .n) → p ≡ inMap (h .masks) → s ≡ inStrings (h .strings) → b ≡ inBanks (h .banks)
+      → putMid banksFrom (bankLength * moduleCount)
+      (putMid stringsFrom (stringLength * stringCount) (putMid masksFrom mapLength (y ++ drop masksFrom d) p) s) b
+      ≡ inHall h
   unfolding inHall
   hall-laid l ey ep es eb =
-      let ly : length y ≡ 4 = ap length ey in
-      let lp : length (y ++ p) ≡ 68 =
-      length-append y p
-      ∙ ap₂ (λ (m k : ℕ). m + k) ly
-      (ap length ep ∙ parts-length 16 (λ j. inWords 4 (masksOf (h .masks) j)) (λ j. words-length 4 (masksOf (h .masks) j)) 4) in
-      let ls : length ((y ++ p) ++ s) ≡ 408 =
-      length-append (y ++ p) s
-      ∙ ap₂ (λ (m k : ℕ). m + k) lp
-      (ap length es
-      ∙ parts-length 85 (λ j. inString (getD (h .strings) j pastString)) (λ j. string-length (getD (h .strings) j pastString)) 4) in
-      ap (λ (t : List ℕ). putMid 408 12 (putMid 68 340 t s) b) (put-next y d p 4 64 ly)
-      ∙ ap (λ (t : List ℕ). putMid 408 12 t b) (put-next (y ++ p) d s 68 340 lp)
-      ∙ put-next ((y ++ p) ++ s) d b 408 12 ls
-      ∙ ap (λ (t : List ℕ). (((y ++ p) ++ s) ++ b) ++ t) (drop-of-length-le d {i = 420} (omega arith))
+      let ly : length y ≡ masksFrom = ap length ey in
+      let lp : length (y ++ p) ≡ stringsFrom =
+      length-append y p ∙ ap₂ (λ (m k : ℕ). m + k) ly (ap length ep ∙ map-length (h .masks)) in
+      let ls : length ((y ++ p) ++ s) ≡ banksFrom =
+      length-append (y ++ p) s ∙ ap₂ (λ (m k : ℕ). m + k) lp (ap length es ∙ strings-length (h .strings)) in
+      ap (λ (t : List ℕ). putMid banksFrom (bankLength * moduleCount) (putMid stringsFrom (stringLength * stringCount) t s) b)
+      (put-next y d p masksFrom mapLength ly)
+      ∙ ap (λ (t : List ℕ). putMid banksFrom (bankLength * moduleCount) t b)
+      (put-next (y ++ p) d s stringsFrom (stringLength * stringCount) lp)
+      ∙ put-next ((y ++ p) ++ s) d b banksFrom (bankLength * moduleCount) ls
+      ∙ ap (λ (t : List ℕ). (((y ++ p) ++ s) ++ b) ++ t) (drop-of-length-le d {i = hallLength} (omega arith))
       ∙ append-nil (((y ++ p) ++ s) ++ b)
       ∙ append-assoc (y ++ p) s b
       ∙ append-assoc y p (s ++ b)

@@ -3,134 +3,147 @@ use mathlib.Core.Path.{_≡_, refl, sym, ap, _∙_}
 use mathlib.Core.Bool.{Bool, true, false}
 use mathlib.Core.List.{List, [], _∷_, _++_}
 use Prim.Native.Nat.{ℕ, _+_, _*_, _^_, _<_}
-use native.Mathlib.Nat.{zero-add, add-zero}
+use native.Mathlib.Nat.{zero-add, add-zero, add-assoc}
 use native.Mathlib.Omega.{arith}
-use lib.ListN.{length, getD}
+use lib.ListN.{length, getD, List·getD-append}
+use lib.Seq.{ext-getD}
+use Rattle.cycle.specs.Size.{stringCount, manifoldCount, moduleCount}
+use Rattle.cycle.specs.Each.{table}
 use Rattle.cycle.specs.Map.{masksOf, pastMasks}
 use Rattle.cycle.specs.Banks.{noBank}
 use Rattle.cycle.specs.Hall.{pastString}
 use Rattle.cycle.specs.declared.banks.Bank.{Bank}
 use Rattle.cycle.specs.declared.hall.Hall.{Hall}
 use Rattle.cycle.specs.declared.map.Masks.{Masks}
+use Rattle.cycle.specs.declared.string.Standing.{Standing}
 use Rattle.cycle.specs.declared.string.StringState.{StringState}
+use Rattle.feed.specs.Size.{wordLength, masksLength, mapLength}
 use Rattle.feed.specs.Bytes.{two, four, inTwo, inFour}
 use Rattle.feed.proofs.Records.NumbersInBytes.{two-inTwo, four-inFour, two-stands, four-stands}
-use Rattle.feed.proofs.Reports.Parts.{getD-past, parts-length}
+use Rattle.feed.proofs.Records.Tables.{table-length, table-at}
+use Rattle.feed.proofs.Reports.Parts.{getD-past}
 use Rattle.feed.proofs.Reports.Stands.{Stands, front, back, part}
-use Rattle.calls.specs.Layout.{flagIn, wordIn, perManifold, stringIn, masksIn, bankIn, hallIn}
-use Rattle.calls.specs.Layout.{inFlag, inWords, stringWordsOf, inString, inBank, inMap, inStrings, inBanks, inHall}
-use Rattle.calls.specs.Layout.{FitString, FitHall}
-use Rattle.calls.proofs.Laid.{standing-read, string-read, masks-read, bank-read, hall-read, words-length, string-length, bank-length}
+use Rattle.calls.specs.Layout.{standingWords, stringWords, wordsLength, stringLength, bankLength, masksFrom, stringsFrom, banksFrom}
+use Rattle.calls.specs.Layout.{flagIn, wordIn, standingIn, stringIn, masksIn, bankIn, hallIn}
+use Rattle.calls.specs.Layout.{inFlag, inWords, wordsOf, otherWordsOf, stringWordsOf, inString, inBank}
+use Rattle.calls.specs.Layout.{inMap, inStrings, inBanks, inHall, FitString, FitHall}
+use Rattle.calls.proofs.Laid.{standing-read, string-read, masks-read, bank-read, masksNo, stringNo, bankNo}
+use Rattle.calls.proofs.Laid.{words-length, string-length, bank-length, map-length, strings-length}
+
+-- a list as long as the rule's, element by element
+listed : {A : Type 0} (d : A) (f : ℕ → A) (n : ℕ) (l : List A) → length l ≡ n → ((i : ℕ) → i < n → getD l i d ≡ f i) → l ≡ table n f
+listed d f n l e at =
+    ext-getD d l (table n f) (e ∙ sym (table-length f n))
+    (λ i b. let c : i < n = omega (arith, e) in at i c ∙ sym (table-at f d n i c))
+
+-- ---- each part read where it stands
 
 module _ (l : List ℕ) where
   word : (n : ℕ) (w : List ℕ) (a : ℕ) → Stands l (inWords n w) a → (j : ℕ) → j < n → getD w j 0 < 2 ^ 32 → getD w j 0 ≡ wordIn l a j
   word n w a h j b fit =
       sym
-      (four-stands l (inFour (getD w j 0)) (a + 4 * j) (part l n 4 (λ k. inFour (getD w k 0)) (λ k. refl) a h j b)
+      (four-stands l (inFour (getD w j 0)) (a + wordLength * j)
+      (part l n wordLength (λ k. inFour (getD w k 0)) (λ k. refl) a h j b)
       ∙ four-inFour (getD w j 0) fit)
 
--- ---- lists of the arrays' lengths, element by element
+  flag-back : (i : ℕ) (b : Bool) → getD l i 0 ≡ inFlag b → b ≡ flagIn l i
+  flag-back i true e = rw e refl
+  flag-back i false e = rw e refl
 
-module _ {A : Type 0} (d : A) where
-  four-listed : (l : List A) → length l ≡ 4 → l ≡ getD l 0 d ∷ getD l 1 d ∷ getD l 2 d ∷ getD l 3 d ∷ []
-  four-listed [] e = absurd (omega arith)
-  four-listed (p ∷ []) e = absurd (omega arith)
-  four-listed (p ∷ q ∷ []) e = absurd (omega arith)
-  four-listed (p ∷ q ∷ r ∷ []) e = absurd (omega arith)
-  four-listed (p ∷ q ∷ r ∷ s ∷ []) e = refl
-  four-listed (p ∷ q ∷ r ∷ s ∷ t ∷ u) e = absurd (omega arith)
+  standing-back : (a k : ℕ) (x : Standing) → length (x .saved) ≡ manifoldCount
+      → ((j : ℕ) → j < standingWords → getD (wordsOf x) j 0 ≡ wordIn l a (k + j)) → x ≡ standingIn l a k
+  standing-back a k x e read =
+      standing-read l a k (read 0 (omega arith) ∙ ap (λ (n : ℕ). wordIn l a n) (add-zero k)) (read 1 (omega arith))
+      (listed 0 (λ m. wordIn l a (k + 2 + m)) manifoldCount (x .saved) e
+      (λ m b.
+      sym (getD-past (x .fail ∷ x .valves ∷ []) (x .saved) 2 m refl)
+      ∙ read (2 + m) (omega arith)
+      ∙ ap (λ (n : ℕ). wordIn l a n) (sym (add-assoc k 2 m))))
 
-  three-listed : (l : List A) → length l ≡ 3 → l ≡ getD l 0 d ∷ getD l 1 d ∷ getD l 2 d ∷ []
-  three-listed [] e = absurd (omega arith)
-  three-listed (p ∷ []) e = absurd (omega arith)
-  three-listed (p ∷ q ∷ []) e = absurd (omega arith)
-  three-listed (p ∷ q ∷ r ∷ []) e = refl
-  three-listed (p ∷ q ∷ r ∷ s ∷ u) e = absurd (omega arith)
+  string-back : (a : ℕ) (x : StringState) → FitString x → Stands l (inString x) a → x ≡ stringIn l a
+  unfolding inString stringWordsOf
+  string-back a x fit h =
+      let w = stringWordsOf x in
+      let standing = wordsOf (x .standing) in
+      let good = wordsOf (x .good) in
+      let others = otherWordsOf x in
+      let flag = inFlag (x .lost) ∷ [] in
+      let ls : length standing ≡ standingWords = omega (arith, fit .saved) in
+      let lg : length good ≡ standingWords = omega (arith, fit .kept) in
+      let read : (j : ℕ) → j < stringWords → getD w j 0 ≡ wordIn l a j =
+      λ j b. word stringWords w a (front l (inWords stringWords w) flag a h) j b (fit .words j) in
+      let now : (j : ℕ) → j < standingWords → getD standing j 0 ≡ wordIn l a (0 + j) =
+      λ j b.
+      sym (List·getD-append standing (good ++ others) 0 j (omega (arith, ls)))
+      ∙ read j (omega arith)
+      ∙ ap (λ (n : ℕ). wordIn l a n) (sym (zero-add j)) in
+      let kept : (j : ℕ) → j < standingWords → getD good j 0 ≡ wordIn l a (standingWords + j) =
+      λ j b.
+      sym (getD-past standing (good ++ others) standingWords j ls ∙ List·getD-append good others 0 j (omega (arith, lg)))
+      ∙ read (standingWords + j) (omega arith) in
+      let other : (j : ℕ) → j < length others → getD others j 0 ≡ wordIn l a (standingWords + (standingWords + j)) =
+      λ j b.
+      sym
+      (getD-past standing (good ++ others) standingWords (standingWords + j) ls ∙ getD-past good others standingWords j lg)
+      ∙ read (standingWords + (standingWords + j)) (omega arith) in
+      let lost : getD l (a + wordsLength) 0 ≡ inFlag (x .lost) =
+      h wordsLength (omega (arith, string-length x)) ∙ getD-past (inWords stringWords w) flag wordsLength 0 (words-length stringWords w) in
+      string-read l a (standing-back a 0 (x .standing) (fit .saved) now) (standing-back a standingWords (x .good) (fit .kept) kept)
+      (other 0 (omega arith)) (other 1 (omega arith)) (other 2 (omega arith)) (other 3 (omega arith)) (other 4 (omega arith))
+      (other 5 (omega arith)) (other 6 (omega arith)) (other 7 (omega arith)) (other 8 (omega arith))
+      (flag-back (a + wordsLength) (x .lost) lost)
 
--- ---- each part read where it stands
+  masks-back : (a : ℕ) (m : Masks) → length (m .words) ≡ manifoldCount → ((k : ℕ) → getD (m .words) k 0 < 2 ^ 32)
+      → Stands l (inWords manifoldCount (m .words)) a → m ≡ masksIn l a
+  masks-back a m e fit h =
+      masks-read l a
+      (listed 0 (λ j. wordIn l a (0 + j)) manifoldCount (m .words) e
+      (λ j b. word manifoldCount (m .words) a h j b (fit j) ∙ ap (λ (n : ℕ). wordIn l a n) (sym (zero-add j))))
 
-four-words : (l w : List ℕ) (a k : ℕ) → length w ≡ 4 → getD w 0 0 ≡ wordIn l a k → getD w 1 0 ≡ wordIn l a (k + 1)
-    → getD w 2 0 ≡ wordIn l a (k + 2) → getD w 3 0 ≡ wordIn l a (k + 3) → w ≡ perManifold l a k
-four-words l w a k e p q r s = four-listed 0 w e ∙ rw (p, q, r, s) refl
-
-flag-back : (l : List ℕ) (i : ℕ) (b : Bool) → getD l i 0 ≡ inFlag b → b ≡ flagIn l i
-flag-back l i true e = rw e refl
-flag-back l i false e = rw e refl
-
-string-back : (l : List ℕ) (a : ℕ) (x : StringState) → FitString x → Stands l (inString x) a → x ≡ stringIn l a
-unfolding inString stringWordsOf
-string-back l a x fit h =
-    let w = stringWordsOf x in
-    let flag = inFlag (x .lost) ∷ [] in
-    let there = front l (inWords 21 w) flag a h in
-    let read : (j : ℕ) → j < 21 → getD w j 0 ≡ wordIn l a j = λ j b. word l 21 w a there j b (fit .words j) in
-    let lost : getD l (a + 84) 0 ≡ inFlag (x .lost) =
-    h 84 (omega (arith, string-length x)) ∙ getD-past (inWords 21 w) flag 84 0 (words-length 21 w) in
-    let now =
-    four-words l (x .standing .saved) a 2 (fit .saved) (read 2 (omega arith)) (read 3 (omega arith)) (read 4 (omega arith))
-    (read 5 (omega arith)) in
-    let good =
-    four-words l (x .good .saved) a 8 (fit .kept) (read 8 (omega arith)) (read 9 (omega arith)) (read 10 (omega arith))
-    (read 11 (omega arith)) in
-    string-read l a (standing-read l a 0 (read 0 (omega arith)) (read 1 (omega arith)) now)
-    (standing-read l a 6 (read 6 (omega arith)) (read 7 (omega arith)) good) (read 12 (omega arith)) (read 13 (omega arith))
-    (read 14 (omega arith)) (read 15 (omega arith)) (read 16 (omega arith)) (read 17 (omega arith)) (read 18 (omega arith))
-    (read 19 (omega arith)) (read 20 (omega arith)) (flag-back l (a + 84) (x .lost) lost)
-
-masks-back : (l : List ℕ) (a : ℕ) (m : Masks) → length (m .words) ≡ 4 → ((k : ℕ) → getD (m .words) k 0 < 2 ^ 32)
-    → Stands l (inWords 4 (m .words)) a → m ≡ masksIn l a
-masks-back l a m e fit h =
-    let read : (j : ℕ) → j < 4 → getD (m .words) j 0 ≡ wordIn l a j = λ j b. word l 4 (m .words) a h j b (fit j) in
-    masks-read l a
-    (four-words l (m .words) a 0 e (read 0 (omega arith)) (read 1 (omega arith)) (read 2 (omega arith)) (read 3 (omega arith)))
-
-bank-back : (l : List ℕ) (a : ℕ) (x : Bank) → x .lesser < 2 ^ 16 → Stands l (inBank x) a → x ≡ bankIn l a
-unfolding inBank
-bank-back l a x fit h =
-    let flags = inFlag (x .unbalanced) ∷ inFlag (x .oxidizer) ∷ [] in
-    let first : getD l a 0 ≡ inFlag (x .unbalanced) = ap (λ (n : ℕ). getD l n 0) (sym (add-zero a)) ∙ h 0 (omega arith) in
-    let lesser : two l (a + 2) ≡ x .lesser =
-    two-stands l (inTwo (x .lesser)) (a + 2) (back l flags (inTwo (x .lesser)) a 2 refl h) ∙ two-inTwo (x .lesser) fit in
-    bank-read l a (flag-back l a (x .unbalanced) first) (flag-back l (a + 1) (x .oxidizer) (h 1 (omega arith))) (sym lesser)
+  bank-back : (a : ℕ) (x : Bank) → x .lesser < 2 ^ 16 → Stands l (inBank x) a → x ≡ bankIn l a
+  unfolding inBank
+  bank-back a x fit h =
+      let flags = inFlag (x .unbalanced) ∷ inFlag (x .oxidizer) ∷ [] in
+      let first : getD l a 0 ≡ inFlag (x .unbalanced) = ap (λ (n : ℕ). getD l n 0) (sym (add-zero a)) ∙ h 0 (omega arith) in
+      let lesser : two l (a + 2) ≡ x .lesser =
+      two-stands l (inTwo (x .lesser)) (a + 2) (back l flags (inTwo (x .lesser)) a 2 refl h) ∙ two-inTwo (x .lesser) fit in
+      bank-read l a (flag-back a (x .unbalanced) first) (flag-back (a + 1) (x .oxidizer) (h 1 (omega arith))) (sym lesser)
 
 -- ---- the whole
 
-relisted : (h : Hall) (m : List Masks) (s : List StringState) (b : List Bank) → h .masks ≡ m → h .strings ≡ s → h .banks ≡ b
-    → h ≡ record { n = h .n; masks = m; strings = s; banks = b }
-relisted h m s b e f g = rw (sym e, sym f, sym g) refl
+whole : (l : List ℕ) (h : Hall) → four l 0 ≡ h .n → h .masks ≡ table stringCount (masksNo l) → h .strings ≡ table stringCount (stringNo l)
+    → h .banks ≡ table moduleCount (bankNo l) → hallIn l ≡ h
+unfolding hallIn
+whole l h n m s b = rw (n, sym m, sym s, sym b) refl
 
 pub read-written : (h : Hall) → FitHall h → hallIn (inHall h) ≡ h
 unfolding inHall
 read-written h fit =
     let l = inHall h in
-    let mask-words : ℕ → List ℕ = λ s. inWords 4 (masksOf (h .masks) s) in
-    let map-length : length (inMap (h .masks)) ≡ 64 = parts-length 16 mask-words (λ s. words-length 4 (masksOf (h .masks) s)) 4 in
+    let map = inMap (h .masks) in
+    let strings = inStrings (h .strings) in
+    let banks = inBanks (h .banks) in
+    let mask-words : ℕ → List ℕ = λ s. inWords manifoldCount (masksOf (h .masks) s) in
     let string-bytes : ℕ → List ℕ = λ s. inString (getD (h .strings) s pastString) in
-    let strings-length : length (inStrings (h .strings)) ≡ 340 =
-    parts-length 85 string-bytes (λ s. string-length (getD (h .strings) s pastString)) 4 in
-    let tail = inStrings (h .strings) ++ inBanks (h .banks) in
-    let all : Stands l (inFour (h .n) ++ (inMap (h .masks) ++ tail)) 0 = λ i b. ap (λ (n : ℕ). getD l n 0) (zero-add i) in
+    let bank-bytes : ℕ → List ℕ = λ m. inBank (getD (h .banks) m noBank) in
+    let all : Stands l (inFour (h .n) ++ (map ++ (strings ++ banks))) 0 = λ i b. ap (λ (n : ℕ). getD l n 0) (zero-add i) in
     let number : four l 0 ≡ h .n =
-    four-stands l (inFour (h .n)) 0 (front l (inFour (h .n)) (inMap (h .masks) ++ tail) 0 all) ∙ four-inFour (h .n) (fit .number) in
-    let behind = back l (inFour (h .n)) (inMap (h .masks) ++ tail) 0 4 refl all in
-    let behind-map = back l (inMap (h .masks)) tail 4 64 map-length behind in
-    let mask : (s : ℕ) → s < 4 → getD (h .masks) s pastMasks ≡ masksIn l (4 + 16 * s) =
-    λ s b.
-    masks-back l (4 + 16 * s) (getD (h .masks) s pastMasks) (fit .masks s b) (fit .words s)
-    (part l 4 16 mask-words (λ k. words-length 4 (masksOf (h .masks) k)) 4 (front l (inMap (h .masks)) tail 4 behind) s b) in
-    let string : (s : ℕ) → s < 4 → getD (h .strings) s pastString ≡ stringIn l (68 + 85 * s) =
-    λ s b.
-    string-back l (68 + 85 * s) (getD (h .strings) s pastString) (fit .string s b)
-    (part l 4 85 string-bytes (λ k. string-length (getD (h .strings) k pastString)) 68
-    (front l (inStrings (h .strings)) (inBanks (h .banks)) 68 behind-map) s b) in
-    let bank : (m : ℕ) → m < 3 → getD (h .banks) m noBank ≡ bankIn l (408 + 4 * m) =
-    λ m b.
-    bank-back l (408 + 4 * m) (getD (h .banks) m noBank) (fit .lesser m)
-    (part l 3 4 (λ k. inBank (getD (h .banks) k noBank)) (λ k. bank-length (getD (h .banks) k noBank)) 408
-    (back l (inStrings (h .strings)) (inBanks (h .banks)) 68 340 strings-length behind-map) m b) in
-    sym
-    (relisted h _ _ _ (four-listed pastMasks (h .masks) (fit .map)) (four-listed pastString (h .strings) (fit .strings))
-    (three-listed noBank (h .banks) (fit .banks))
-    ∙ hall-read l (mask 0 (omega arith)) (mask 1 (omega arith)) (mask 2 (omega arith)) (mask 3 (omega arith)) (string 0 (omega arith))
-    (string 1 (omega arith)) (string 2 (omega arith)) (string 3 (omega arith)) (bank 0 (omega arith)) (bank 1 (omega arith))
-    (bank 2 (omega arith)) (sym number))
+    four-stands l (inFour (h .n)) 0 (front l (inFour (h .n)) (map ++ (strings ++ banks)) 0 all) ∙ four-inFour (h .n) (fit .number) in
+    let behind = back l (inFour (h .n)) (map ++ (strings ++ banks)) 0 wordLength refl all in
+    let behind-map = back l map (strings ++ banks) masksFrom mapLength (map-length (h .masks)) behind in
+    let behind-strings = back l strings banks stringsFrom (stringLength * stringCount) (strings-length (h .strings)) behind-map in
+    whole l h number
+    (listed pastMasks (masksNo l) stringCount (h .masks) (fit .map)
+    (λ s b.
+    masks-back l (masksFrom + masksLength * s) (getD (h .masks) s pastMasks) (fit .masks s b) (fit .words s)
+    (part l stringCount masksLength mask-words (λ k. words-length manifoldCount (masksOf (h .masks) k)) masksFrom
+    (front l map (strings ++ banks) masksFrom behind) s b)))
+    (listed pastString (stringNo l) stringCount (h .strings) (fit .strings)
+    (λ s b.
+    string-back l (stringsFrom + stringLength * s) (getD (h .strings) s pastString) (fit .string s b)
+    (part l stringCount stringLength string-bytes (λ k. string-length (getD (h .strings) k pastString)) stringsFrom
+    (front l strings banks stringsFrom behind-map) s b)))
+    (listed noBank (bankNo l) moduleCount (h .banks) (fit .banks)
+    (λ m b.
+    bank-back l (banksFrom + bankLength * m) (getD (h .banks) m noBank) (fit .lesser m)
+    (part l moduleCount bankLength bank-bytes (λ k. bank-length (getD (h .banks) k noBank)) banksFrom behind-strings m b)))

@@ -20,16 +20,35 @@ use Rattle.feed.specs.Bytes.{two, four, inTwo, inFour, parts}
 
 -- ---- lengths and places
 
--- the words of a standing and of a string: standing, good copy, three off slots, on slots and recheck, two overrides, close
+-- a standing: fail, valves, and a saved set for each manifold
 abbrev pub standingWords : ℕ
 standingWords = 2 + manifoldCount
 
+-- a string's words: standing, good copy, three off slots, on slots and recheck, two overrides, close
+abbrev pub offFrom : ℕ
+offFrom = 2 * standingWords
+
+abbrev pub onFrom : ℕ
+onFrom = offFrom + 3
+
+abbrev pub overFrom : ℕ
+overFrom = onFrom + 3
+
+abbrev pub closeAt : ℕ
+closeAt = overFrom + 2
+
 abbrev pub stringWords : ℕ
-stringWords = 2 * standingWords + 3 + 3 + 2 + 1
+stringWords = closeAt + 1
+
+abbrev pub standingLength : ℕ
+standingLength = wordLength * standingWords
+
+abbrev pub wordsLength : ℕ
+wordsLength = wordLength * stringWords
 
 -- behind a string's words the flag of its path fault; a bank has two flags and a quantity
 abbrev pub stringLength : ℕ
-stringLength = wordLength * stringWords + 1
+stringLength = wordsLength + 1
 
 abbrev pub bankLength : ℕ
 bankLength = 2 + quantityLength
@@ -56,9 +75,9 @@ flagIn l i = not (eqb (getD l i 0) 0)
 abbrev pub wordIn : List ℕ → ℕ → ℕ → ℕ
 wordIn l i k = four l (i + wordLength * k)
 
--- four words from the k-th on, one for each manifold
+-- the words from the k-th on, one for each manifold
 abbrev pub perManifold : List ℕ → ℕ → ℕ → List ℕ
-perManifold l i k = wordIn l i k ∷ wordIn l i (k + 1) ∷ wordIn l i (k + 2) ∷ wordIn l i (k + 3) ∷ []
+perManifold l i k = table manifoldCount (λ m. wordIn l i (k + m))
 
 -- a standing from the k-th word on
 abbrev pub standingIn : List ℕ → ℕ → ℕ → Standing
@@ -68,11 +87,11 @@ abbrev pub stringIn : List ℕ → ℕ → StringState
 stringIn l i = record {
   standing = standingIn l i 0;
   good = standingIn l i standingWords;
-  off = record { newest = wordIn l i 12; older = wordIn l i 13; oldest = wordIn l i 14 };
-  on = record { newest = wordIn l i 15; older = wordIn l i 16; recheck = wordIn l i 17 };
-  over = record { inhibit = wordIn l i 18; reenable = wordIn l i 19 };
-  close = wordIn l i 20;
-  lost = flagIn l (i + wordLength * stringWords);
+  off = record { newest = wordIn l i offFrom; older = wordIn l i (offFrom + 1); oldest = wordIn l i (offFrom + 2) };
+  on = record { newest = wordIn l i onFrom; older = wordIn l i (onFrom + 1); recheck = wordIn l i (onFrom + 2) };
+  over = record { inhibit = wordIn l i overFrom; reenable = wordIn l i (overFrom + 1) };
+  close = wordIn l i closeAt;
+  lost = flagIn l (i + wordsLength);
 }
 
 abbrev pub masksIn : List ℕ → ℕ → Masks
@@ -100,14 +119,16 @@ abbrev pub inWords : ℕ → List ℕ → List ℕ
 inWords n words = parts n (λ k. inFour (getD words k 0))
 
 abbrev pub wordsOf : Standing → List ℕ
-wordsOf x = x .fail ∷ x .valves ∷ getD (x .saved) 0 0 ∷ getD (x .saved) 1 0 ∷ getD (x .saved) 2 0 ∷ getD (x .saved) 3 0 ∷ []
+wordsOf x = x .fail ∷ x .valves ∷ x .saved
+
+-- behind the standing and the good copy
+abbrev pub otherWordsOf : StringState → List ℕ
+otherWordsOf x =
+    x .off .newest ∷ x .off .older ∷ x .off .oldest ∷ x .on .newest ∷ x .on .older ∷ x .on .recheck ∷ x .over .inhibit ∷ x .over .reenable
+    ∷ x .close ∷ []
 
 unfoldable pub stringWordsOf : StringState → List ℕ
-stringWordsOf x =
-    wordsOf (x .standing)
-    ++ (wordsOf (x .good)
-    ++ (x .off .newest ∷ x .off .older ∷ x .off .oldest ∷ x .on .newest ∷ x .on .older ∷ x .on .recheck ∷ x .over .inhibit
-    ∷ x .over .reenable ∷ x .close ∷ []))
+stringWordsOf x = wordsOf (x .standing) ++ (wordsOf (x .good) ++ otherWordsOf x)
 
 unfoldable pub inString : StringState → List ℕ
 inString x = inWords stringWords (stringWordsOf x) ++ (inFlag (x .lost) ∷ [])

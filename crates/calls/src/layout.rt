@@ -1,18 +1,18 @@
-// A whole hall in 420 bytes: the fields in the order of the structs that declare them, each at its full width, the high byte first. A yes
+// A whole hall in 612 bytes: the fields in the order of the structs that declare them, each at its full width, the high byte first. A yes
 // or no is one byte, written as 1 or 0; any byte but 0 is read as yes.
 //
-// n (4); for each string its masks (4 words); for each string 85 bytes: standing and good copy (each the fail word, the valves and four
-// saved sets), off slots (newest, older, oldest), on slots (newest, older) and recheck word, inhibits, re-enables and close word, and
-// whether its path is lost; for each module whether it is out of balance, whether the oxidizer is the lesser, and the lesser quantity (2).
+// n (4); for each string its masks (a word for each manifold); for each string its standing and good copy (each the fail word, the valves
+// and a saved set for each manifold), off slots (newest, older, oldest), on slots (newest, older) and recheck word, inhibits, re-enables
+// and close word, and whether its path is lost; for each module whether it is out of balance, whether the oxidizer is the lesser, and the
+// lesser quantity (2).
 ghost use mathlib.Core.Path.{_≡_};
-ghost use mathlib.Core.List.{List};
 ghost use Prim.Native.Nat.{_+_, _*_, _<_, _≤_};
-ghost use lib.ListN.{length, getD};
+ghost use lib.ListN.{length};
 ghost use Rattle.cycle.specs.Size.{manifoldCount, stringCount, moduleCount};
 ghost use Rattle.feed.specs.Size.{wordLength, masksLength, mapLength};
-ghost use Rattle.calls.specs.Layout.{stringLength, bankLength, hallLength};
+ghost use Rattle.calls.specs.Layout.{standingWords, stringWords, standingLength, stringLength, bankLength, hallLength};
 ghost use Rattle.calls.specs.Layout.{flagIn, wordIn, perManifold, standingIn, stringIn, masksIn, bankIn, hallIn};
-ghost use Rattle.calls.specs.Layout.{inFlag, inWords, stringWordsOf, inString, inBank, inMap, inStrings, inBanks, inHall};
+ghost use Rattle.calls.specs.Layout.{inFlag, inWords, wordsOf, otherWordsOf, inString, inBank, inMap, inStrings, inBanks, inHall};
 use cycle::banks::Bank;
 use cycle::hall::Hall;
 use cycle::map::Masks;
@@ -36,7 +36,24 @@ use feed::size::WORD_LENGTH;
 // Lengths and places; specs/Layout says the same.
 const STANDING_WORDS: usize = 2 + MANIFOLDS;
 
-const STRING_WORDS: usize = 2 * STANDING_WORDS + 3 + 3 + 2 + 1;
+const OFF_FROM: usize = 2 * STANDING_WORDS;
+
+const ON_FROM: usize = OFF_FROM + 3;
+
+const OVER_FROM: usize = ON_FROM + 3;
+
+const CLOSE_AT: usize = OVER_FROM + 2;
+
+const STRING_WORDS: usize = CLOSE_AT + 1;
+
+const OTHER_WORDS: usize = STRING_WORDS - OFF_FROM;
+
+// In bytes: a standing and the saved sets in it, and the words behind the good copy.
+const STANDING_LENGTH: usize = WORD_LENGTH * STANDING_WORDS;
+
+const SAVED_FROM: usize = WORD_LENGTH * 2;
+
+const OTHERS_FROM: usize = WORD_LENGTH * OFF_FROM;
 
 const WORDS_LENGTH: usize = WORD_LENGTH * STRING_WORDS;
 
@@ -61,28 +78,29 @@ fn flag_in(b: &[u8], i: usize) -> bool
 
 // The k-th word of the part that begins at place i.
 fn word_in(b: &[u8], i: usize, k: usize) -> u32
-    requires { ⌜ (i ≤ length (now b)) × (k < 256) × (length (now b) < 65536) ⌝ }
+    requires { ⌜ (i ≤ length (now b)) × (k < stringWords) × (length (now b) < 65536) ⌝ }
     ensures { λ r. ⌜ r ≡ wordIn (now (b .entry)) i k ⌝ }
 {
     read_four(b, i + WORD_LENGTH * k)
 }
 
-// Four words from the k-th on, one for each manifold.
+// The words from the k-th on, one for each manifold.
 fn per_manifold(b: &[u8], i: usize, k: usize) -> [u32; MANIFOLDS]
-    requires { ⌜ (i ≤ length (now b)) × (k < 250) × (length (now b) < 65536) ⌝ }
+    requires { ⌜ (i ≤ length (now b)) × (k + manifoldCount ≤ stringWords) × (length (now b) < 65536) ⌝ }
     ensures { λ r. ⌜ r ≡ perManifold (now (b .entry)) i k ⌝ }
 {
-    [
-        word_in(b, i, k),
-        word_in(b, i, k + 1),
-        word_in(b, i, k + 2),
-        word_in(b, i, k + 3),
-    ]
+    let mut words = [0u32; MANIFOLDS];
+    let mut m: usize = 0;
+    while m < MANIFOLDS {
+        words[m] = word_in(b, i, k + m);
+        m += 1;
+    }
+    words
 }
 
 // A standing from the k-th word on.
 fn standing_in(b: &[u8], i: usize, k: usize) -> Standing
-    requires { ⌜ (i ≤ length (now b)) × (k < 200) × (length (now b) < 65536) ⌝ }
+    requires { ⌜ (i ≤ length (now b)) × (k + standingWords ≤ stringWords) × (length (now b) < 65536) ⌝ }
     ensures { λ r. ⌜ r ≡ standingIn (now (b .entry)) i k ⌝ }
 {
     let saved = per_manifold(b, i, k + 2);
@@ -100,18 +118,18 @@ fn string_in(b: &[u8], i: usize) -> StringState
     let standing = standing_in(b, i, 0);
     let good = standing_in(b, i, STANDING_WORDS);
     let off = OffSlots {
-        newest: word_in(b, i, 12),
-        older: word_in(b, i, 13),
-        oldest: word_in(b, i, 14),
+        newest: word_in(b, i, OFF_FROM),
+        older: word_in(b, i, OFF_FROM + 1),
+        oldest: word_in(b, i, OFF_FROM + 2),
     };
     let on = OnSlots {
-        newest: word_in(b, i, 15),
-        older: word_in(b, i, 16),
-        recheck: word_in(b, i, 17),
+        newest: word_in(b, i, ON_FROM),
+        older: word_in(b, i, ON_FROM + 1),
+        recheck: word_in(b, i, ON_FROM + 2),
     };
     let over = Overrides {
-        inhibit: word_in(b, i, 18),
-        reenable: word_in(b, i, 19),
+        inhibit: word_in(b, i, OVER_FROM),
+        reenable: word_in(b, i, OVER_FROM + 1),
     };
     StringState {
         standing: standing,
@@ -119,7 +137,7 @@ fn string_in(b: &[u8], i: usize) -> StringState
         off: off,
         on: on,
         over: over,
-        close: word_in(b, i, 20),
+        close: word_in(b, i, CLOSE_AT),
         lost: flag_in(b, i + WORDS_LENGTH),
     }
 }
@@ -143,7 +161,7 @@ fn bank_in(b: &[u8], i: usize) -> Bank
     }
 }
 
-// The hall that 420 bytes give.
+// The hall that its bytes give.
 pub(crate) fn hall_in(b: &[u8; HALL]) -> Hall
     ensures { λ r. ⌜ r ≡ hallIn (now (b .entry)) ⌝ }
 {
@@ -191,30 +209,26 @@ fn put_words(b: &mut [u8], words: &[u32])
     }
 }
 
-// The words of a string.
-fn string_words(x: StringState) -> [u32; STRING_WORDS]
-    ensures { λ r. ⌜ r ≡ stringWordsOf x ⌝ }
+// That a standing has a saved set for each manifold says where the next part's words stand.
+fn put_standing(b: &mut [u8], x: Standing)
+    requires { ⌜ length (now b) ≡ standingLength ⌝ }
+    ensures { λ r. ⌜ now (b .exit) ≡ inWords standingWords (wordsOf x) ⌝ }
+    ensures { λ r. ⌜ length (x .saved) ≡ manifoldCount ⌝ }
 {
-    let standing = x.standing;
-    let good = x.good;
-    let saved = standing.saved;
-    let kept = good.saved;
+    let first = [x.fail, x.valves];
+    let saved = x.saved;
+    put_words(&mut b[0..SAVED_FROM], &first);
+    put_words(&mut b[SAVED_FROM..STANDING_LENGTH], &saved);
+}
+
+// The words of a string behind its standing and its good copy.
+fn other_words(x: StringState) -> [u32; OTHER_WORDS]
+    ensures { λ r. ⌜ r ≡ otherWordsOf x ⌝ }
+{
     let off = x.off;
     let on = x.on;
     let over = x.over;
     [
-        standing.fail,
-        standing.valves,
-        saved[0],
-        saved[1],
-        saved[2],
-        saved[3],
-        good.fail,
-        good.valves,
-        kept[0],
-        kept[1],
-        kept[2],
-        kept[3],
         off.newest,
         off.older,
         off.oldest,
@@ -231,8 +245,12 @@ fn put_string(b: &mut [u8], x: StringState)
     requires { ⌜ length (now b) ≡ stringLength ⌝ }
     ensures { λ r. ⌜ now (b .exit) ≡ inString x ⌝ }
 {
-    let words = string_words(x);
-    put_words(&mut b[0..WORDS_LENGTH], &words);
+    let standing = x.standing;
+    let good = x.good;
+    let others = other_words(x);
+    put_standing(&mut b[0..STANDING_LENGTH], standing);
+    put_standing(&mut b[STANDING_LENGTH..OTHERS_FROM], good);
+    put_words(&mut b[OTHERS_FROM..WORDS_LENGTH], &others);
     b[WORDS_LENGTH] = flag(x.lost);
 }
 

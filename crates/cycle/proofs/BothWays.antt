@@ -41,7 +41,7 @@ module _ (masks : List ℕ) (q : Requests) where
       )
 
 -- in a record
-pub names-exactly : (masks : List Masks) (r : Record) → (recordBothWays masks r ≡ true) ↔ NamedBothWays masks r
+pub names-exactly : (masks : List Masks) (r : Record) → (recordBothWays masks r ≡ true) ↔ NamedBothWays manifoldCount masks r
 unfolding bothWays
 names-exactly masks (minor r) = ((λ e. not-both false e refl), (λ x. not-both (bit (x .jet) 0) (x .inhibit) (bit-none (x .jet))))
 names-exactly masks (major r) = (to, from)
@@ -49,7 +49,7 @@ names-exactly masks (major r) = (to, from)
     in-string : ℕ → Bool
     in-string s = stringBothWays (masksOf masks s) (getD (r .requests) s noRequests)
 
-    to : any stringCount in-string ≡ true → NamedBothWays masks (major r)
+    to : any stringCount in-string ≡ true → NamedBothWays manifoldCount masks (major r)
     to e =
         let x = any-found stringCount in-string e in
         let y = named-found (masksOf masks (x .0)) (getD (r .requests) (x .0) noRequests) (x .2) in
@@ -65,7 +65,7 @@ names-exactly masks (major r) = (to, from)
           reenable = y .3;
         }
 
-    from : NamedBothWays masks (major r) → any stringCount in-string ≡ true
+    from : NamedBothWays manifoldCount masks (major r) → any stringCount in-string ≡ true
     from x =
         any-at stringCount in-string (x .string) (x .inHall)
         (named-at (masksOf masks (x .string)) (getD (r .requests) (x .string) noRequests) (x .manifold) (x .jet) (x .inString) (x .stands)

@@ -1,6 +1,6 @@
 -- Arrays whose elements are replaced one after the other: a loop's turn, and what stands at each place in the end. Assumes nothing.
 use mathlib.Core.Path.{_≡_, refl, ap, _∙_}
-use mathlib.Core.List.{List}
+use mathlib.Core.List.{List, [], _∷_}
 use mathlib.Core.Logic.{⊎-elim}
 use Prim.Native.Nat.{ℕ, zero, suc, _≤_, _<_}
 use native.Mathlib.Nat.{not-suc-le-zero, le-of-suc-le-suc, eq-or-lt-of-le}
@@ -39,6 +39,20 @@ module _ {A : Type 0} (f : ℕ → A → A) (d : A) (l : List A) where
       (λ (b : i < n).
       getD-set-other (each n f d l) n i (f n (getD (each n f d l) n d)) d (λ e. omega arith) ∙ each-at n i b (omega arith))
       (eq-or-lt-of-le (le-of-suc-le-suc h))
+
+  -- four elements that are written out
+  pub four-each : {a b c e : A} → length l ≡ 4 → a ≡ f 0 (getD l 0 d) → b ≡ f 1 (getD l 1 d) → c ≡ f 2 (getD l 2 d)
+      → e ≡ f 3 (getD l 3 d) → a ∷ b ∷ c ∷ e ∷ [] ≡ each 4 f d l
+  unfolding each
+  four-each long h₀ h₁ h₂ h₃ = rw (h₀, h₁, h₂, h₃) (by l long)
+    where
+      by : (k : List A) → length k ≡ 4 → f 0 (getD k 0 d) ∷ f 1 (getD k 1 d) ∷ f 2 (getD k 2 d) ∷ f 3 (getD k 3 d) ∷ [] ≡ each 4 f d k
+      by [] q = absurd (omega arith)
+      by (x ∷ []) q = absurd (omega arith)
+      by (x ∷ y ∷ []) q = absurd (omega arith)
+      by (x ∷ y ∷ z ∷ []) q = absurd (omega arith)
+      by (x ∷ y ∷ z ∷ w ∷ []) q = refl
+      by (x ∷ y ∷ z ∷ w ∷ v ∷ k) q = absurd (omega arith)
 
 -- two rules that agree below n do the same
 pub each-same : {A : Type 0} (f g : ℕ → A → A) (d : A) (l : List A) (n : ℕ) → ((i : ℕ) (x : A) → i < n → f i x ≡ g i x)

@@ -1,6 +1,6 @@
 -- The hall's loops over its strings and modules do to each what its own rule says; a fresh hall is proper and every step keeps it so.
 -- Assumes nothing.
-use mathlib.Core.Path.{_≡_, sym, ap, _∙_}
+use mathlib.Core.Path.{_≡_, refl, sym, ap, _∙_}
 use mathlib.Core.Bool.{Bool, false}
 use mathlib.Core.List.{List}
 use Prim.Native.Nat.{ℕ, _<_}
@@ -9,7 +9,7 @@ use lib.ListN.{length, getD, length-replicate, getD-replicate}
 use Rattle.bits.specs.Bit.{bit}
 use Rattle.bits.proofs.Yes.{not-both}
 use Rattle.bits.proofs.Bits.{bit-none}
-use Rattle.cycle.specs.Size.{stringCount, manifoldCount, moduleCount}
+use Rattle.cycle.specs.Size.{stringCount, manifoldCount, allOpen, moduleCount}
 use Rattle.cycle.specs.Map.{masksOf, FitMap, refused}
 use Rattle.cycle.specs.Words.{fresh, freshStanding, minorCycle, majorCycle}
 use Rattle.cycle.specs.Banks.{noBank, noQuantities, weighed, weighedAll}
@@ -81,6 +81,11 @@ fresh-standing-proper masks = record {
 pub fresh-string : (masks : List Masks) (s : ℕ) → s < stringCount → stringOf (freshHall masks) s ≡ fresh
 unfolding freshHall
 fresh-string masks s l = getD-replicate stringCount s fresh pastString l
+
+-- 02, order 7: "At fresh all eight are remembered as open"; "good copy the same"
+pub fresh-open : (masks : List Masks) (s : ℕ) → s < stringCount
+    → ((stringOf (freshHall masks) s) .standing .valves ≡ allOpen) × ((stringOf (freshHall masks) s) .good .valves ≡ allOpen)
+fresh-open masks s l = rw (fresh-string masks s l) (refl, refl)
 
 pub fresh-proper : (masks : List Masks) → FitMap masks → refused stringCount masks ≡ false → ProperHall (freshHall masks)
 unfolding freshHall

@@ -122,14 +122,14 @@ module _ (m : ℕ) (masks : List ℕ) (fits : (i : ℕ) → i < m → getD masks
 
 -- ---- the whole map
 
-pub refused-exactly : (masks : List Masks) → FitMap masks → (refused stringCount masks ≡ true) ↔ TwoMasks masks
+pub refused-exactly : (masks : List Masks) → FitMap masks → (refused stringCount masks ≡ true) ↔ TwoMasks manifoldCount masks
 unfolding refused
 refused-exactly masks fit = (to, back)
   where
     test : ℕ → Bool
     test s = overlap manifoldCount (masksOf masks s)
 
-    to : any stringCount test ≡ true → TwoMasks masks
+    to : any stringCount test ≡ true → TwoMasks manifoldCount masks
     to e =
         let x = any-found stringCount test e in
         let y = overlap-shared manifoldCount (masksOf masks (x .0)) (λ i l. fit (x .0) i (x .1) l) manifoldCount (omega arith) (x .2) in
@@ -145,7 +145,7 @@ refused-exactly masks fit = (to, back)
           inOther = y .inOther;
         }
 
-    back : TwoMasks masks → any stringCount test ≡ true
+    back : TwoMasks manifoldCount masks → any stringCount test ≡ true
     back w =
         any-at stringCount test (w .string) (w .inHall)
         (shared-overlap manifoldCount (masksOf masks (w .string)) (λ i l. fit (w .string) i (w .inHall) l) manifoldCount (omega arith)

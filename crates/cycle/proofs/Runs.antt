@@ -3,8 +3,7 @@
 use mathlib.Core.Path.{_≡_, refl, sym, ap, ap₂, subst, _∙_}
 use mathlib.Core.Bool.{Bool, true, false, not, cond, and-assoc, _&&_, _||_}
 use mathlib.Core.List.{List, [], _∷_}
-use Prim.Native.Nat.{ℕ, _^_, _<_}
-use native.Mathlib.Omega.{arith}
+use Prim.Native.Nat.{ℕ, _<_}
 use lib.ListN.{getD, getD-replicate}
 use Rattle.bits.specs.Bit.{bit, any}
 use Rattle.bits.proofs.Yes.{and-false}
@@ -28,13 +27,12 @@ use Rattle.cycle.specs.declared.map.Masks.{Masks}
 use Rattle.cycle.specs.declared.number.Next.{Next}
 use Rattle.cycle.specs.declared.number.Verdict.{Verdict}
 use Rattle.cycle.specs.declared.number.Verdict.the-variants.{Takes, Refuses}
-use Rattle.cycle.specs.declared.string.StringState.{StringState}
 use Rattle.cycle.specs.declared.hall.Hall.{Hall}
 use Rattle.cycle.specs.declared.hall.Stepped.{Stepped}
 use Rattle.cycle.proofs.Judgements.{Follows}
 use Rattle.cycle.proofs.Verdicts.{verdict-follows, verdict-untaken}
 use Rattle.cycle.proofs.HallStrings.{fresh-string, fresh-proper, taken-proper}
-use Rattle.cycle.proofs.HallAgrees.{jet-after, close-after, close-fits-after, number-after, map-after, bank-after}
+use Rattle.cycle.proofs.HallAgrees.{jet-after, close-after, number-after, map-after, bank-after}
 
 record-number : (n s i j : ℕ) (r : Record) → (jetRecord n s i j r) .n ≡ n
 record-number n s i j (minor r) = refl
@@ -53,12 +51,11 @@ both-ways : (m a b : Bool) → ((m && a) || (m && b)) ≡ (m && (a || b))
 both-ways true a b = refl
 both-ways false a b = refl
 
--- what a run keeps: a proper hall that is told by the records taken, whose cycle numbers rise; close bits are manifolds' alone
+-- what a run keeps: a proper hall that is told by the records taken, whose cycle numbers rise
 pub record Run (masks : List Masks) (h : Hall) (ts : List TakenRecord) : Type 0 where
   pub proper : ProperHall h
   pub told : Told masks h ts
   pub rising : (s i j : ℕ) → Rising (jetHistory s i j ts)
-  pub closeFits : (s : ℕ) → s < stringCount → (stringOf h s) .close < 2 ^ manifoldCount
 
 -- ---- fresh
 
@@ -67,7 +64,6 @@ unfolding freshHall jets.run jets.askedSinceDrop
 run-fresh masks fit accepted = record {
   proper = fresh-proper masks fit accepted;
   rising = λ s i j. tt;
-  closeFits = λ s l. rw (ap (λ (x : StringState). x .close) (fresh-string masks s l)) (omega arith);
   told = record {
     map = refl;
     number = refl;
@@ -97,7 +93,6 @@ module _ (masks : List Masks) (h : Hall) (ts : List TakenRecord) (run : Run mask
     proper = proper;
     rising = λ s i j.
         (rw (record-number (next .n) s i j r, reached-same s i j ts, ← run .told .number) (f .above), run .rising s i j);
-    closeFits = λ s l. close-fits-after h (run .proper) ((common r) .wire) next s l r f (run .closeFits s l);
     told = record {
       map = map-after r next h ∙ run .told .map;
       number = number-after r next h;

@@ -1,17 +1,16 @@
--- Step 4 of any string is its four manifolds' turns, lowest first. Assumes nothing.
+-- Step 4 of any string is its manifolds' turns, lowest first, whatever their number. Assumes nothing.
 use mathlib.Core.Path.{_≡_, refl, ap, _∙_}
 use mathlib.Core.Bool.{Bool, true, false}
 use mathlib.Core.List.{List}
-use Prim.Native.Nat.{ℕ, _<_}
+use Prim.Native.Nat.{ℕ, zero, suc, _<_}
 use native.Mathlib.Omega.{arith}
 use lib.ListN.{getD, length, length-set}
 use lib.Seq.{getD-set-same, getD-set-other, set-getD}
 use Rattle.bits.specs.Bit.{bit}
 use Rattle.bits.proofs.Yes.{not-both}
 use Rattle.bits.proofs.Bits.{bit-or, bit-without}
-use Rattle.cycle.specs.Size.{manifoldCount}
 use Rattle.cycle.specs.Words.{Passed, handled, atManifold, manifold, passed, manifolds}
-use Rattle.cycle.specs.Turns.{Turn, FourTurns, wordsOf}
+use Rattle.cycle.specs.Turns.{Turn, TurnByTurn, wordsOf}
 use Rattle.cycle.specs.declared.string.StringState.{StringState}
 
 -- a manifold's turn
@@ -53,31 +52,33 @@ is-turn i mask false false p l = record {
   others = turn-others i mask false false p;
 }
 
-pub four-turns : (masks : List ℕ) (now : ℕ) (s : StringState) → length (s .standing .saved) ≡ 4
-    → FourTurns masks now s (manifolds manifoldCount masks now s)
+-- the turns keep a saved set for each manifold
+passed-long : (m : ℕ) (masks : List ℕ) (was now : ℕ) (p : Passed) → length ((passed m masks was now p) .saved) ≡ length (p .saved)
+unfolding passed
+passed-long zero masks was now p = refl
+passed-long (suc m) masks was now p = length-set ((passed m masks was now p) .saved) m _ ∙ passed-long m masks was now p
+
+pub turn-by-turn : (m : ℕ) (masks : List ℕ) (now : ℕ) (s : StringState) → length (s .standing .saved) ≡ m
+    → TurnByTurn m masks now s (manifolds m masks now s)
 unfolding manifolds passed
-four-turns masks now s long =
-    let was : ℕ = s .standing .valves in
-    let zero : Passed = wordsOf s in
-    let one : Passed = turned 0 (getD masks 0 0) (bit 0 was) (bit 0 now) zero in
-    let two : Passed = turned 1 (getD masks 1 0) (bit 1 was) (bit 1 now) one in
-    let three : Passed = turned 2 (getD masks 2 0) (bit 2 was) (bit 2 now) two in
-    let four : Passed = turned 3 (getD masks 3 0) (bit 3 was) (bit 3 now) three in
-    let a : length (one .saved) ≡ 4 = length-set (zero .saved) 0 _ ∙ long in
-    let b : length (two .saved) ≡ 4 = length-set (one .saved) 1 _ ∙ a in
-    let c : length (three .saved) ≡ 4 = length-set (two .saved) 2 _ ∙ b in
-    record {
-      one = one;
-      two = two;
-      three = three;
-      four = four;
-      first = is-turn 0 (getD masks 0 0) (bit 0 was) (bit 0 now) zero (omega arith);
-      second = is-turn 1 (getD masks 1 0) (bit 1 was) (bit 1 now) one (omega arith);
-      third = is-turn 2 (getD masks 2 0) (bit 2 was) (bit 2 now) two (omega arith);
-      fourth = is-turn 3 (getD masks 3 0) (bit 3 was) (bit 3 now) three (omega arith);
-      fail = λ j. bit-or j (four .fail) (s .over .inhibit);
-      valves = refl;
-      saved = refl;
-      reenable = refl;
-      rest = (refl, refl, refl, refl, refl, refl);
-    }
+turn-by-turn m masks now s long = record {
+  after = after;
+  first = refl;
+  turn = turn;
+  fail = λ j. bit-or j ((after m) .fail) (s .over .inhibit);
+  valves = refl;
+  saved = refl;
+  reenable = refl;
+  rest = (refl, refl, refl, refl, refl, refl);
+}
+  where
+    was : ℕ
+    was = s .standing .valves
+
+    after : ℕ → Passed
+    after i = passed i masks was now (wordsOf s)
+
+    turn : (i : ℕ) → i < m → Turn i (getD masks i 0) (bit i was) (bit i now) (after i) (after (suc i))
+    turn i l =
+        let long-enough = passed-long i masks was now (wordsOf s) ∙ long in
+        is-turn i (getD masks i 0) (bit i was) (bit i now) (after i) (omega (arith, long-enough, l))

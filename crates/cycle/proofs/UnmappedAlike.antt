@@ -116,7 +116,7 @@ taken-same h next (major a) (major b) alike =
 -- a jet that one record names both ways, a record that says the same of mapped jets names too
 named-alike : (masks : List Masks) (a b : Record)
     → ((s i j : ℕ) → s < stringCount → i < manifoldCount → inMask (masksOf masks s) i j → jetRecord 0 s i j a ≡ jetRecord 0 s i j b)
-    → NamedBothWays masks a → NamedBothWays masks b
+    → NamedBothWays manifoldCount masks a → NamedBothWays manifoldCount masks b
 named-alike masks a b same x =
     let e = same (x .string) (x .manifold) (x .jet) (x .inHall) (x .inString) (x .stands) in
     record {

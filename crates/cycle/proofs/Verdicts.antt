@@ -7,6 +7,7 @@ use Prim.Native.Nat.{ℕ, _+_}
 use native.Mathlib.Omega.{arith}
 use lib.Dec.{ltb}
 use Rattle.bits.proofs.Yes.{not-both, not-yes}
+use Rattle.cycle.specs.Size.{manifoldCount}
 use Rattle.cycle.specs.Answers.{isTaken, writesReport}
 use Rattle.cycle.specs.Numbers.{isMajor, missedMajor, judged}
 use Rattle.cycle.specs.Records.{Record, majorKind, common}
@@ -153,28 +154,28 @@ module _ (r : Record) (h : Hall) where
   taken-is : (x : Next) → byNumber (h .n) (h .masks) r ≡ Takes x → recordBothWays (h .masks) r ≡ false → (stepped r h) .answer ≡ Taken
   taken-is x p q = answered (Takes x) (verdict-takes (h .n) (h .masks) r x p q)
 
-  pub hall-both-ways : ((stepped r h) .answer ≡ BothWays) ↔ (NoneBefore (h .n) r × NamedBothWays (h .masks) r)
+  pub hall-both-ways : ((stepped r h) .answer ≡ BothWays) ↔ (NoneBefore (h .n) r × NamedBothWays manifoldCount (h .masks) r)
   hall-both-ways = (
     (λ e. by e (byNumber (h .n) (h .masks) r) refl (recordBothWays (h .masks) r) refl),
     (λ x. named-is _ (turn-takes (x .0)) (names-exactly (h .masks) r .1 (x .1))),
   )
     where
       by : (stepped r h) .answer ≡ BothWays → (v : Verdict) → byNumber (h .n) (h .masks) r ≡ v → (b : Bool)
-          → recordBothWays (h .masks) r ≡ b → NoneBefore (h .n) r × NamedBothWays (h .masks) r
+          → recordBothWays (h .masks) r ≡ b → NoneBefore (h .n) r × NamedBothWays manifoldCount (h .masks) r
       by e (Refuses a) p b q = not-by-number a _ judgement p (sym (refused-is a p) ∙ e)
       by e (Takes x) p true q = (takes-turn x _ judgement p, names-exactly (h .masks) r .0 q)
       by e (Takes x) p false q =
           let f : Taken ≡ BothWays = sym (taken-is x p q) ∙ e in
           let o : _≡_ {A = ℕ} 0 1 = cc in absurd (omega arith)
 
-  pub hall-takes : ((stepped r h) .answer ≡ Taken) ↔ (NoneBefore (h .n) r × (NamedBothWays (h .masks) r → ⊥))
+  pub hall-takes : ((stepped r h) .answer ≡ Taken) ↔ (NoneBefore (h .n) r × (NamedBothWays manifoldCount (h .masks) r → ⊥))
   hall-takes = (
     (λ e. by e (byNumber (h .n) (h .masks) r) refl (recordBothWays (h .masks) r) refl),
     (λ x. taken-is _ (turn-takes (x .0)) (not-yes (recordBothWays (h .masks) r) (λ e. x .1 (names-exactly (h .masks) r .0 e)))),
   )
     where
       by : (stepped r h) .answer ≡ Taken → (v : Verdict) → byNumber (h .n) (h .masks) r ≡ v → (b : Bool)
-          → recordBothWays (h .masks) r ≡ b → NoneBefore (h .n) r × (NamedBothWays (h .masks) r → ⊥)
+          → recordBothWays (h .masks) r ≡ b → NoneBefore (h .n) r × (NamedBothWays manifoldCount (h .masks) r → ⊥)
       by e (Refuses a) p b q =
           not-both (isTaken a) (ap isTaken (sym (refused-is a p) ∙ e))
           (refusal-untaken (refusal-by (h .n) (h .masks) r a _ judgement p))

@@ -10,14 +10,14 @@ use Rattle.cycle.specs.Records.{Record, majorKind, common}
 use Rattle.cycle.specs.Views.{jetRecord}
 use Rattle.cycle.specs.declared.map.Masks.{Masks}
 
--- "A jet named both ways": the record has the inhibit and the re-enable bit of a jet that stands in a mask, of four strings with four masks
+-- "A jet named both ways": the record has the inhibit and the re-enable bit of a jet that stands in a mask, of four strings with `m` masks
 -- each
-pub record NamedBothWays (masks : List Masks) (r : Record) : Type 0 where
+pub record NamedBothWays (m : ℕ) (masks : List Masks) (r : Record) : Type 0 where
   pub string : ℕ
   pub manifold : ℕ
   pub jet : ℕ
   pub inHall : string < 4
-  pub inString : manifold < 4
+  pub inString : manifold < m
   pub stands : inMask (masksOf masks string) manifold jet
   pub inhibit : (jetRecord 0 string manifold jet r) .inhibit ≡ true
   pub reenable : (jetRecord 0 string manifold jet r) .reenable ≡ true

@@ -70,7 +70,7 @@ noOff = record { newest = false; older = false; oldest = false }
 abbrev pub noOn : JetOn
 noOn = record { newest = false; older = false; recheck = false }
 
--- "Fresh: every word 0, no path fault remembered, all four valves remembered as open, good copy the same."
+-- "Fresh: every word 0, no path fault remembered, .. good copy the same." 02, order 7: "At fresh all eight are remembered as open."
 abbrev pub freshStanding : JetStanding
 freshStanding = record { fail = false; valve = true; saved = false }
 

@@ -45,14 +45,15 @@ inMask masks i j = bit j (getD masks i 0) ≡ true
 abbrev pub FitMap : List Masks → Type 0
 FitMap masks = (s i : ℕ) → s < stringCount → i < manifoldCount → getD (masksOf masks s) i 0 < 2 ^ wordBits
 
--- "two masks of one string share a bit": jet `jet` stands in two masks of string `string`, of four strings with four masks each
-pub record TwoMasks (masks : List Masks) : Type 0 where
+-- "two masks of one string share a bit", 02, order 7: "still disjoint in a string": jet `jet` stands in two masks of string `string`, of
+-- four strings with `m` masks each
+pub record TwoMasks (m : ℕ) (masks : List Masks) : Type 0 where
   pub string : ℕ
   pub one : ℕ
   pub other : ℕ
   pub jet : ℕ
   pub inHall : string < 4
   pub apart : one < other
-  pub inString : other < 4
+  pub inString : other < m
   pub inOne : inMask (masksOf masks string) one jet
   pub inOther : inMask (masksOf masks string) other jet

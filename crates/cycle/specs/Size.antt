@@ -1,4 +1,4 @@
--- The sizes and limits of 01, each under one name; src/size.rt says the same. Assumes nothing.
+-- The sizes and limits of 01, as 02, orders 3 and 7, amend them, each under one name; src/size.rt says the same. Assumes nothing.
 use Prim.Native.Nat.{ℕ, _-_, _^_}
 use Rattle.bits.specs.Bit.{wordBits}
 
@@ -10,11 +10,11 @@ stringCount = 4
 abbrev pub jetCount : ℕ
 jetCount = wordBits
 
--- each string has four manifolds
+-- 02, order 7: "Eight manifolds a string."
 abbrev pub manifoldCount : ℕ
-manifoldCount = 4
+manifoldCount = 8
 
--- "all four valves remembered as open": a bit for each manifold
+-- 02, order 7: "At fresh all eight are remembered as open": a bit for each manifold
 abbrev pub allOpen : ℕ
 allOpen = 2 ^ manifoldCount - 1
 

@@ -3,7 +3,7 @@
 use mathlib.Core.Path.{_≡_}
 use mathlib.Core.Bool.{Bool, true, false, not, _&&_, _||_}
 use mathlib.Core.List.{List}
-use Prim.Native.Nat.{ℕ, _<_}
+use Prim.Native.Nat.{ℕ, suc, _<_}
 use lib.Bits.{bitAnd}
 use lib.ListN.{length, getD}
 use Rattle.bits.specs.Bit.{bit}
@@ -35,21 +35,18 @@ pub record Turn (i mask : ℕ) (was now : Bool) (p q : Passed) : Type 0 where
 abbrev pub wordsOf : StringState → Passed
 wordsOf s = record { fail = s .standing .fail; reenable = s .over .reenable; saved = s .standing .saved }
 
--- step 4 takes the string s to the string t, V being `now`
-pub record FourTurns (masks : List ℕ) (now : ℕ) (s t : StringState) : Type 0 where
-  pub one : Passed
-  pub two : Passed
-  pub three : Passed
-  pub four : Passed
-  pub first : Turn 0 (getD masks 0 0) (bit 0 (s .standing .valves)) (bit 0 now) (wordsOf s) one
-  pub second : Turn 1 (getD masks 1 0) (bit 1 (s .standing .valves)) (bit 1 now) one two
-  pub third : Turn 2 (getD masks 2 0) (bit 2 (s .standing .valves)) (bit 2 now) two three
-  pub fourth : Turn 3 (getD masks 3 0) (bit 3 (s .standing .valves)) (bit 3 now) three four
+-- 02, order 7: "State the manifold rule once over the number of manifolds": step 4 takes the string s with m manifolds to the string t, V
+-- being `now`, by a turn for each, which goes on with the words that the one before it left
+pub record TurnByTurn (m : ℕ) (masks : List ℕ) (now : ℕ) (s t : StringState) : Type 0 where
+  -- the words after the turns of the lowest i
+  pub after : ℕ → Passed
+  pub first : after 0 ≡ wordsOf s
+  pub turn : (i : ℕ) → i < m → Turn i (getD masks i 0) (bit i (s .standing .valves)) (bit i now) (after i) (after (suc i))
   -- "Then all inhibited jets are failed and V is remembered."
-  pub fail : (j : ℕ) → bit j (t .standing .fail) ≡ (bit j (four .fail) || bit j (s .over .inhibit))
+  pub fail : (j : ℕ) → bit j (t .standing .fail) ≡ (bit j ((after m) .fail) || bit j (s .over .inhibit))
   pub valves : t .standing .valves ≡ now
-  pub saved : t .standing .saved ≡ four .saved
-  pub reenable : t .over .reenable ≡ four .reenable
+  pub saved : t .standing .saved ≡ (after m) .saved
+  pub reenable : t .over .reenable ≡ (after m) .reenable
   pub rest : (t .over .inhibit ≡ s .over .inhibit)
       × (t .good ≡ s .good)
       × (t .off ≡ s .off)
@@ -59,11 +56,11 @@ pub record FourTurns (masks : List ℕ) (now : ℕ) (s t : StringState) : Type 0
 
 -- ---- in a taken record
 
--- the arrays of a hall have the lengths that their types fix
-pub record Shaped (h : Hall) : Type 0 where
+-- the arrays of a hall have the lengths that their types fix: four strings, and in each `m` saved sets
+pub record Shaped (m : ℕ) (h : Hall) : Type 0 where
   pub strings : length (h .strings) ≡ 4
-  pub saved : (s : ℕ) → s < 4 → length ((stringOf h s) .standing .saved) ≡ 4
-  pub good : (s : ℕ) → s < 4 → length ((stringOf h s) .good .saved) ≡ 4
+  pub saved : (s : ℕ) → s < 4 → length ((stringOf h s) .standing .saved) ≡ m
+  pub good : (s : ℕ) → s < 4 → length ((stringOf h s) .good .saved) ≡ m
 
 -- string s of the hall after steps 1 to 3 of the record r, which leads to the number n, its path bit being clear
 abbrev pub beforeTurns : Hall → Minor → ℕ → ℕ → StringState

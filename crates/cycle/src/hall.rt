@@ -70,7 +70,8 @@ fn quiet_strings(
     next
 }
 
-// Every string by all its steps.
+// Every string by all its steps. The first three are written out for each string: a loop over so much is not unrolled, and then the strings
+// stay in memory, and every record, quiet or not, carries them from place to place.
 fn all_steps(
     strings: [StringState; STRINGS],
     masks: [Masks; STRINGS],
@@ -81,13 +82,19 @@ fn all_steps(
     ensures { λ x. ⌜ x ≡ minorStrings stringCount masks r gap missed strings ⌝ }
 {
     let path = r.path as u32;
-    let mut next = strings;
+    let samples = r.samples;
+    let mut next = [
+        strings[0].first_steps(masks[0], has(path, 0), samples[0], gap, missed),
+        strings[1].first_steps(masks[1], has(path, 1), samples[1], gap, missed),
+        strings[2].first_steps(masks[2], has(path, 2), samples[2], gap, missed),
+        strings[3].first_steps(masks[3], has(path, 3), samples[3], gap, missed),
+    ];
     let mut s: usize = 0;
     while s < STRINGS {
         let string = next[s];
         let m = masks[s];
-        let sample = r.samples[s];
-        next[s] = string.minor_cycle(m, has(path, s), sample, gap, missed);
+        let sample = samples[s];
+        next[s] = string.fourth_step(m, has(path, s), sample.valves as u32);
         s += 1;
     }
     next

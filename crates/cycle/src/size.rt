@@ -1,4 +1,4 @@
-// The sizes and limits of document 01, each under one name; specs/Size says the same.
+// The sizes and limits of documents 01 and 02, each under one name; specs/Size says the same.
 
 // Four strings, 0 to 3.
 pub const STRINGS: usize = 4;
@@ -9,8 +9,8 @@ pub const JETS: usize = 32;
 // All jets of a string: a bit for each. In a wider word first, which has room for one bit more.
 pub const ALL_JETS: u32 = ((1u64 << JETS) - 1) as u32;
 
-// Each string has four manifolds.
-pub const MANIFOLDS: usize = 4;
+// Each string has eight manifolds.
+pub const MANIFOLDS: usize = 8;
 
 // All valves open: a bit for each manifold.
 pub const ALL_OPEN: u32 = (1 << MANIFOLDS) - 1;

@@ -1,10 +1,12 @@
 // One string of 32 jets on packed words: jet j is bit j. A method for each numbered step of document 01.
 ghost use mathlib.Core.Path.{_≡_};
+ghost use mathlib.Core.Bool.{cond};
 ghost use Rattle.cycle.specs.Size.{manifoldCount};
 ghost use Rattle.cycle.specs.Inside.Quiet.{busy, quietCycle};
 ghost use Rattle.cycle.specs.Words.{fresh, pathLost, recovered, gapped, offFailure, manifold, manifolds};
 ghost use Rattle.cycle.specs.Words.{requested, asksClose, closeBits, rechecked, onFailure, kept, badJets};
-ghost use Rattle.cycle.specs.Words.{minorCycle, majorCycle};
+ghost use Rattle.cycle.specs.Words.{majorCycle};
+ghost use Rattle.cycle.specs.Inside.Halves.{firstSteps, fourthStep};
 use crate::leak::leak_word;
 use crate::map::Masks;
 use crate::size::ALL_OPEN;
@@ -110,6 +112,28 @@ fn bad_jets(mapped: u32, commanded: u32, driver: u32, leaking: u32) -> u32
     without(mapped & (driver | leaking), commanded)
 }
 
+// x if b, else y.
+fn chosen(b: bool, x: u32, y: u32) -> u32
+    ensures { λ r. ⌜ r ≡ cond b x y ⌝ }
+{
+    if b { x } else { y }
+}
+
+// The saved sets that are kept, if a path fault is over, else their own. Each is chosen by its bit of a word: copied as one they stay in
+// memory, and every record, quiet or not, carries them from place to place.
+fn sets_back(lost: bool, kept: [u32; MANIFOLDS], own: [u32; MANIFOLDS]) -> [u32; MANIFOLDS]
+    ensures { λ r. ⌜ r ≡ cond lost kept own ⌝ }
+{
+    let back = chosen(lost, ALL_OPEN, 0);
+    let mut saved = own;
+    let mut i: usize = 0;
+    while i < MANIFOLDS {
+        saved[i] = chosen(has(back, i), kept[i], saved[i]);
+        i += 1;
+    }
+    saved
+}
+
 impl StringState {
     pub(crate) fn fresh() -> StringState
         ensures { λ r. ⌜ r ≡ fresh ⌝ }
@@ -154,8 +178,13 @@ impl StringState {
     fn recovered(mut self) -> StringState
         ensures { λ r. ⌜ r ≡ recovered self ⌝ }
     {
+        let good = self.good;
+        let mut standing = self.standing;
+        let kept = good.saved;
+        let own = standing.saved;
+        let saved = sets_back(self.lost, kept, own);
+        standing.saved = saved;
         if self.lost {
-            let standing = self.good;
             let off = OffSlots {
                 newest: 0,
                 older: 0,
@@ -166,10 +195,14 @@ impl StringState {
                 older: 0,
                 recheck: 0,
             };
+            standing.fail = good.fail;
+            standing.valves = good.valves;
             self.standing = standing;
             self.off = off;
             self.on = on;
             self.lost = false;
+        } else {
+            self.standing = standing;
         }
         self
     }
@@ -324,8 +357,8 @@ impl StringState {
         self
     }
 
-    // Steps 1 to 4, for any taken record.
-    pub(crate) fn minor_cycle(
+    // Steps 1 to 3, for any taken record.
+    pub(crate) fn first_steps(
         self,
         masks: Masks,
         path: bool,
@@ -333,7 +366,7 @@ impl StringState {
         gap: bool,
         missed: bool,
     ) -> StringState
-        ensures { λ r. ⌜ r ≡ minorCycle manifoldCount (masks .words) path sample gap missed self ⌝ }
+        ensures { λ r. ⌜ r ≡ firstSteps manifoldCount (masks .words) path sample gap missed self ⌝ }
     {
         if path {
             self.path_lost()
@@ -341,8 +374,18 @@ impl StringState {
             let mapped = masks.mapped();
             let a = self.recovered();
             let b = a.gapped(gap, missed);
-            let d = b.off_failure(mapped & sample.commanded, sample.pressure);
-            d.manifolds(masks, sample.valves as u32)
+            b.off_failure(mapped & sample.commanded, sample.pressure)
+        }
+    }
+
+    // Step 4, for any taken record.
+    pub(crate) fn fourth_step(self, masks: Masks, path: bool, valves: u32) -> StringState
+        ensures { λ r. ⌜ r ≡ fourthStep manifoldCount (masks .words) path valves self ⌝ }
+    {
+        if path {
+            self
+        } else {
+            self.manifolds(masks, valves)
         }
     }
 

@@ -50,7 +50,7 @@ pub record BothWaysSaid (masks : List Masks) (r : List ℕ) : Type 0 where
   pub manifold : ℕ
   pub jet : ℕ
   pub inHall : string < 4
-  pub inString : manifold < 4
+  pub inString : manifold < 8
   pub stands : inMask (masksOf masks string) manifold jet
   pub inhibit : bit jet (four r (569 + 8 * string)) ≡ true
   pub reenable : bit jet (four r (573 + 8 * string)) ≡ true
@@ -140,10 +140,10 @@ pub record Read (m : Monitor) (piece : List ℕ) (c : Result) : Type 0 where
 
 -- "6 map: two masks of a string overlap: a fresh one over the empty map"; else a fresh one over the map, and the answer 0
 pub record Starts (masks : List Masks) (x : Outcome) : Type 0 where
-  pub refused : (x .answer ≡ MapRefused) ↔ TwoMasks masks
-  pub accepted : (x .answer ≡ Taken) ↔ (TwoMasks masks → ⊥)
-  pub emptied : TwoMasks masks → x .monitor ≡ holding (freshHall (replicate 4 (record { words = replicate 4 0 }))) []
-  pub fresh : (TwoMasks masks → ⊥) → x .monitor ≡ holding (freshHall masks) []
+  pub refused : (x .answer ≡ MapRefused) ↔ TwoMasks 8 masks
+  pub accepted : (x .answer ≡ Taken) ↔ (TwoMasks 8 masks → ⊥)
+  pub emptied : TwoMasks 8 masks → x .monitor ≡ holding (freshHall (replicate 4 (record { words = replicate 8 0 }))) []
+  pub fresh : (TwoMasks 8 masks → ⊥) → x .monitor ≡ holding (freshHall masks) []
   pub used : x .used ≡ 0
   -- "Four strings, 0 to 3"; "two nitrogen banks in each of three modules"
   pub strings : length (x .monitor .hall .strings) ≡ 4

@@ -1,13 +1,13 @@
--- 01, "The feed", as 02, order 6, amends it: the record format, over lists of bytes. Assumes nothing.
+-- 01, "The feed", as 02, orders 6 and 7, amend it: the record format, over lists of bytes. Assumes nothing.
 use mathlib.Core.Bool.{Bool, true, false, cond, _&&_}
 use mathlib.Core.List.{List, [], _∷_}
 use Prim.Native.Nat.{ℕ, _+_, _-_, _*_, _%_}
 use lib.Dec.{eqb, ltb, leb}
 use lib.ListN.{length, getD, take}
 use Rattle.bits.specs.Bit.{every}
-use Rattle.cycle.specs.Size.{stringCount, moduleCount}
+use Rattle.cycle.specs.Size.{moduleCount}
 use Rattle.feed.specs.Size.{markByte, minorMark, majorMark, minorLength, majorLength, sumLength, sumSpan, reservedFrom, mostQuantity}
-use Rattle.feed.specs.Size.{pathAt, samplesFrom, sampleLength, valvesIn, dropsFrom, quantitiesFrom, quantitiesLength, quantityLength}
+use Rattle.feed.specs.Size.{pathAt, quantitiesFrom, quantitiesLength, quantityLength}
 use Rattle.feed.specs.Bytes.{two}
 use Rattle.feed.specs.declared.format.Kind.{Kind}
 use Rattle.feed.specs.declared.format.Kind.the-variants.{Minor, Major}
@@ -30,23 +30,9 @@ sumOf l = total l % sumSpan
 abbrev pub sumRight : ℕ → List ℕ → Bool
 sumRight n l = eqb (two l (n - sumLength)) (sumOf (take (n - sumLength) l))
 
--- "path byte (..; bits 4 to 7 zero)"
-abbrev pub pathZero : List ℕ → Bool
-pathZero l = ltb (getD l pathAt 0) reservedFrom
-
--- "for each string 13 bytes: .. valve-open V (1; .., bits 4 to 7 zero)": of string s
-abbrev pub valvesZero : List ℕ → ℕ → Bool
-valvesZero l s = ltb (getD l (samplesFrom + sampleLength * s + valvesIn) 0) reservedFrom
-
+-- "path byte (..; bits 4 to 7 zero)"; 02, order 7: "the reserved-bit rules for valve and drop go; the path byte's stays"
 unfoldable pub reservedZero : List ℕ → Bool
-reservedZero l = pathZero l && every stringCount (valvesZero l)
-
--- 02, order 6: "one byte a string ..: bit i asks to drop manifold i's close bit; bits 4 to 7 zero": of string s
-abbrev pub dropZero : List ℕ → ℕ → Bool
-dropZero l s = ltb (getD l (dropsFrom + s) 0) reservedFrom
-
-unfoldable pub dropsZero : List ℕ → Bool
-dropsZero l = every stringCount (dropZero l)
+reservedZero l = ltb (getD l pathAt 0) reservedFrom
 
 -- "for each module fuel then oxidizer, 2 bytes each, in tenths of a percent, at most 1,000": the two from place i on
 abbrev pub twoRight : List ℕ → ℕ → Bool
@@ -59,7 +45,7 @@ unfoldable pub goodMinor : List ℕ → Bool
 goodMinor l = sumRight minorLength l && reservedZero l
 
 unfoldable pub goodMajor : List ℕ → Bool
-goodMajor l = sumRight majorLength l && reservedZero l && dropsZero l && quantitiesRight l
+goodMajor l = sumRight majorLength l && reservedZero l && quantitiesRight l
 
 -- ---- the table of kinds: the second byte of the mark, the length, what makes a full record good
 

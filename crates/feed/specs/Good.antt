@@ -8,14 +8,9 @@ use lib.ListN.{length, getD, take}
 use Rattle.feed.specs.Bytes.{two}
 use Rattle.feed.specs.Format.{total}
 
--- "path byte (..; bits 4 to 7 zero); for each string 13 bytes: .. valve-open V (1; .., bits 4 to 7 zero)"
-pub record ReservedZero (r : List ℕ) : Type 0 where
-  pub path : getD r 4 0 < 16
-  pub valves : (s : ℕ) → s < 4 → getD r (5 + 13 * s + 12) 0 < 16
-
--- 02, order 6: "one byte a string after the re-enable words of all strings: ..; bits 4 to 7 zero"
-abbrev pub DropsZero : List ℕ → Type 0
-DropsZero r = (s : ℕ) → s < 4 → getD r (601 + s) 0 < 16
+-- "path byte (..; bits 4 to 7 zero)"; 02, order 7: "the reserved-bit rules for valve and drop go; the path byte's stays"
+abbrev pub ReservedZero : List ℕ → Type 0
+ReservedZero r = getD r 4 0 < 16
 
 -- "sum, 2 bytes: all earlier bytes of the record, mark included, added modulo 65,536"
 abbrev pub SumRight : List ℕ → Type 0
@@ -38,7 +33,6 @@ pub record MajorRecord (r : List ℕ) : Type 0 where
   pub mark : (getD r 0 0 ≡ 0x52) × (getD r 1 0 ≡ 0x4A)
   pub sum : SumRight r
   pub reserved : ReservedZero r
-  pub drops : DropsZero r
   pub quantities : QuantitiesRight r
 
 abbrev pub WholeRecord : List ℕ → Type 0

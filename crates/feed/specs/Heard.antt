@@ -1,4 +1,4 @@
--- What a taken record says of one jet and of one module, read off its bytes: 01, "The feed", place by place, as 02, order 6, amends
+-- What a taken record says of one jet and of one module, read off its bytes: 01, "The feed", place by place, as 02, orders 6 and 7, amend
 -- it. The numbers are written as the documents write or add them up. Lists are the newest first. Assumes nothing.
 use mathlib.Core.Path.{_≡_}
 use mathlib.Core.Bool.{true, false, cond}
@@ -38,7 +38,7 @@ inMajor r x = cond (eqb (getD r 1 0) 0x4A) x 0
 -- Jet j on manifold i of string s. "path byte (bit s ..); for each string 13 bytes: commanded C (4), pressure P (4), driver D (4),
 -- valve-open V (1; bit i for manifold i, ..)"; "512 bytes of injector temperatures (string by string, jet by jet, fuel word then oxidizer
 -- word); for each string an inhibit word and a re-enable word (4 bytes each)"; 02, order 6: "one byte a string after the re-enable words of
--- all strings: bit i asks to drop manifold i's close bit".
+-- all strings: bit i asks to drop manifold i's close bit"; order 7: "Valve byte, close byte and drop byte use all eight bits".
 abbrev pub jetHeard : ℕ → ℕ → ℕ → Heard → JetRecord
 jetHeard s i j t = record {
   n = t .n;

@@ -1,4 +1,4 @@
--- The map from its bytes: "the sixteen masks first (64 bytes, string by string, high byte first)". Assumes nothing.
+-- The map from its bytes: "string by string, high byte first"; 02, order 7: "128 bytes of masks". Assumes nothing.
 use mathlib.Core.Bool.{cond}
 use mathlib.Core.List.{List, []}
 use Prim.Native.Nat.{ℕ, _+_, _*_}
@@ -25,7 +25,7 @@ masksAt l i = record { words = maskWordsAt l i }
 unfoldable pub masksOfBytes : List ℕ → List Masks
 masksOfBytes l = table stringCount (λ s. masksAt l (masksLength * s))
 
--- starting over the map that 64 bytes give; bytes of any other number are no map: nothing is settled, and 6 is not given for it
+-- starting over the map that 128 bytes give; bytes of any other number are no map: nothing is settled, and 6 is not given for it
 unfoldable pub startedFrom : List ℕ → Outcome
 startedFrom l =
     cond (eqb (length l) mapLength) (startedOver (masksOfBytes l))

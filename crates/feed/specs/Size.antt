@@ -1,6 +1,6 @@
--- The sizes and limits of 01, "The feed" and "Which answer a record gets", as 02, order 6, amends them, each under one name; src/size.rt
--- says the same. Lengths and places follow from the parts; that they are the numbers that the documents write is said in proofs/Numerals.
--- Assumes nothing.
+-- The sizes and limits of 01, "The feed" and "Which answer a record gets", as 02, orders 6 and 7, amend them, each under one name;
+-- src/size.rt says the same. Lengths and places follow from the parts; that they are the numbers that the documents write is said in
+-- proofs/Records/Numerals. Assumes nothing.
 use Prim.Native.Nat.{ℕ, _+_, _-_, _*_}
 use Rattle.cycle.specs.Size.{stringCount, jetCount, manifoldCount, moduleCount}
 
@@ -114,7 +114,7 @@ storeLength = majorLength
 abbrev pub mostHeld : ℕ
 mostHeld = storeLength - 1
 
--- "bits 4 to 7 zero"
+-- "path byte (..; bits 4 to 7 zero)"; 02, order 7: "the path byte's stays"
 abbrev pub reservedFrom : ℕ
 reservedFrom = 16
 
@@ -162,7 +162,7 @@ reportLength = lesserFrom + moduleCount * lesserLength
 abbrev pub outboxNeeded : ℕ
 outboxNeeded = reportLength
 
--- "the sixteen masks (64 bytes, ..)": a word for each manifold of each string
+-- 02, order 7: "thirty-two masks", "128 bytes of masks": a word for each manifold of each string
 abbrev pub masksLength : ℕ
 masksLength = manifoldCount * wordLength
 

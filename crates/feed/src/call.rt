@@ -162,7 +162,7 @@ impl Monitor {
         }
     }
 
-    // A fresh monitor over the map that 64 bytes give; bytes of another number are no map, and settle nothing.
+    // A fresh monitor over the map that 128 bytes give; bytes of another number are no map, and settle nothing.
     pub fn start_from(bytes: &[u8]) -> Outcome
         ensures { λ r. ⌜ r ≡ startedFrom (now (bytes .entry)) ⌝ }
     {

@@ -3,11 +3,10 @@ ghost use mathlib.Core.Path.{_≡_};
 ghost use Prim.Native.Nat.{_+_, _≤_};
 ghost use lib.ListN.{length};
 ghost use Rattle.feed.specs.Size.{minorLength, majorLength, quantitiesLength};
-ghost use Rattle.feed.specs.Format.{markOf, lengthOf, lengthMarked, sumOf, reservedZero, dropsZero, twoRight, quantitiesRight};
+ghost use Rattle.feed.specs.Format.{markOf, lengthOf, lengthMarked, sumOf, reservedZero, twoRight, quantitiesRight};
 ghost use Rattle.feed.specs.Format.{goodMinor, goodMajor, goodKind, fullLook, look};
 use crate::bytes::two_at;
 use crate::bytes::wide16;
-use crate::size::DROPS_FROM;
 use crate::size::MAJOR_LENGTH;
 use crate::size::MAJOR_MARK;
 use crate::size::MAJOR_SUMMED;
@@ -21,11 +20,7 @@ use crate::size::QUANTITIES_FROM;
 use crate::size::QUANTITIES_LENGTH;
 use crate::size::QUANTITY_LENGTH;
 use crate::size::RESERVED_FROM;
-use crate::size::SAMPLE_LENGTH;
-use crate::size::SAMPLES_FROM;
-use crate::size::VALVES_IN;
 use cycle::size::MODULES;
-use cycle::size::STRINGS;
 
 // The kinds of records. Their rows: `mark_of`, `length_of` and `good`.
 pub enum Kind {
@@ -94,32 +89,12 @@ pub fn sum(s: &[u8]) -> u16
     t
 }
 
-// Are the reserved bits of the path byte and of every string's valve byte zero?
+// Are the reserved bits of the path byte zero?
 fn reserved_zero(s: &[u8]) -> bool
     requires { ⌜ minorLength ≤ length (now s) ⌝ }
     ensures { λ r. ⌜ r ≡ reservedZero (now (s .entry)) ⌝ }
 {
-    let mut valves = true;
-    let mut k: usize = 0;
-    while k < STRINGS {
-        valves = valves & (s[SAMPLES_FROM + SAMPLE_LENGTH * k + VALVES_IN] < RESERVED_FROM);
-        k += 1;
-    }
-    (s[PATH_AT] < RESERVED_FROM) & valves
-}
-
-// Are the reserved bits of every string's drop byte zero?
-fn drops_zero(s: &[u8]) -> bool
-    requires { ⌜ majorLength ≤ length (now s) ⌝ }
-    ensures { λ r. ⌜ r ≡ dropsZero (now (s .entry)) ⌝ }
-{
-    let mut zero = true;
-    let mut k: usize = 0;
-    while k < STRINGS {
-        zero = zero & (s[DROPS_FROM + k] < RESERVED_FROM);
-        k += 1;
-    }
-    zero
+    s[PATH_AT] < RESERVED_FROM
 }
 
 // Are the two quantities from `i` on at most 1,000?
@@ -167,7 +142,7 @@ fn good_major(s: &[u8]) -> bool
     if two_at(s, MAJOR_SUMMED) != sum(&s[..MAJOR_SUMMED]) {
         return false;
     }
-    drops_zero(s) & quantities_right(s)
+    quantities_right(s)
 }
 
 // Is the full record of this kind at the front good?

@@ -1,4 +1,4 @@
-// The map from its bytes: sixteen masks, string by string, manifold 0 first, the high byte first.
+// The map from its bytes: thirty-two masks, string by string, manifold 0 first, the high byte first.
 ghost use mathlib.Core.Path.{_≡_};
 ghost use Prim.Native.Nat.{_≤_};
 ghost use Rattle.feed.specs.Size.{mapLength};

@@ -69,7 +69,7 @@ pub const STORE: usize = MAJOR_LENGTH;
 
 pub const MOST_HELD: usize = STORE - 1;
 
-// Bits 4 to 7 of the path byte, of a valve byte and of a drop byte are zero.
+// Bits 4 to 7 of the path byte, which has a bit for each string, are zero.
 pub const RESERVED_FROM: u8 = 16;
 
 // A quantity is at most this many tenths of a percent.

@@ -68,7 +68,7 @@ impl Place {
 }
 
 impl Jet {
-    // "Fresh: every word 0, no path fault remembered, all four valves remembered as open, good copy the same."
+    // "Fresh: every word 0, no path fault remembered, .. good copy the same." 02, order 7: "At fresh all eight are remembered as open."
     pub(crate) fn fresh(place: Place) -> Jet
         ensures { λ r. ⌜ r ≡ freshOn place ⌝ }
     {

@@ -30,7 +30,7 @@ use Rattle.plain.specs.declared.call.PlainOutcome.{PlainOutcome}
 use Rattle.plain.proofs.CallsAlike.{calls-alike, start-alike}
 use Rattle.plainwatch.specs.Watched.{Fresh, Watched, ReportedFor}
 
--- 64 bytes of a map that is not refused start a fresh monitor
+-- 128 bytes of a map that is not refused start a fresh monitor
 pub fresh-from : (map : List ℕ) (masks : List Masks) (s : PlainOutcome) → length map ≡ mapLength → masks ≡ masksOfBytes map → FitMap masks
     → s ≡ startedOver masks → (s .answer ≡ MapRefused → ⊥) → Fresh (s .monitor) map
 unfolding packed.startedOver hall.started

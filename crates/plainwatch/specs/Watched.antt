@@ -17,8 +17,8 @@ use Rattle.plain.specs.Call.{startedOver}
 use Rattle.plain.specs.CallsAlike.{monitorAfter}
 use Rattle.plain.specs.declared.call.PlainMonitor.{PlainMonitor}
 
--- "the sixteen masks first (64 bytes ..)", "if the masks are short or refused it writes nothing": the monitor is fresh over these bytes, a
--- whole map that is accepted
+-- 02, order 7: "The program reads 128 bytes of masks"; "if the masks are short or refused it writes nothing": the monitor is fresh over
+-- these bytes, a whole map that is accepted
 pub record Fresh (start : PlainMonitor) (map : List ℕ) : Type 0 where
   pub whole : length map ≡ mapLength
   pub fits : FitMap (masksOfBytes map)

@@ -1,4 +1,4 @@
-// The night monitor by the plain engine, for audits: the job of `watch`, the map (64 bytes) and then a feed from standard input, the
+// The night monitor by the plain engine, for audits: the job of `watch`, the map (128 bytes) and then a feed from standard input, the
 // reports to standard output, with the reader and the report of `feed`, the lines of `lines` and the engine of `plain`. It makes one call
 // after the other and writes each report by itself: it is meant to be read, not to be fast.
 ghost use mathlib.Core.Path.{_≡_};

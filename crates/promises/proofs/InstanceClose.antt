@@ -8,9 +8,10 @@ use mathlib.Core.Logic.{inr}
 use Prim.Native.Nat.{ℕ, zero, suc, _+_, _*_, _<_, _^_}
 use native.Mathlib.Omega.{arith}
 use native.Mathlib.Bridge.{le-by-compare, IsLe}
-use lib.ListN.{getD, take}
+use lib.ListN.{getD, take, replicate}
 use Rattle.bits.specs.Bit.{bit, wordBits}
 use Rattle.bits.proofs.Yes.{not-both, and-both}
+use Rattle.cycle.specs.Size.{stringCount, manifoldCount}
 use Rattle.cycle.specs.Answers.{writesReport}
 use Rattle.cycle.specs.Map.{FitMap}
 use Rattle.feed.specs.Size.{reportLength}
@@ -26,22 +27,20 @@ use Rattle.promises.proofs.InstanceGiven.{feed-given, longer-given}
 
 -- ---- the map
 
--- a manifold without jets
-quiet : (i : ℕ) → getD (0 ∷ 0 ∷ 0 ∷ 0 ∷ []) i 0 < 2 ^ wordBits
+-- manifolds without jets
+quiet : (n i : ℕ) → getD (replicate n 0) i 0 < 2 ^ wordBits
 unfolding IsLe
-quiet zero = le-by-compare 1 0x100000000 tt
-quiet (suc zero) = le-by-compare 1 0x100000000 tt
-quiet (suc (suc zero)) = le-by-compare 1 0x100000000 tt
-quiet (suc (suc (suc zero))) = le-by-compare 1 0x100000000 tt
-quiet (suc (suc (suc (suc i)))) = le-by-compare 1 0x100000000 tt
+quiet zero i = le-by-compare 1 0x100000000 tt
+quiet (suc n) zero = le-by-compare 1 0x100000000 tt
+quiet (suc n) (suc i) = quiet n i
 
 pub night-fits : FitMap nightMap
 unfolding IsLe
 night-fits zero zero l m = le-by-compare 0x10 0x100000000 tt
-night-fits zero (suc i) l m = quiet (suc i)
-night-fits (suc zero) i l m = quiet i
-night-fits (suc (suc zero)) i l m = quiet i
-night-fits (suc (suc (suc zero))) i l m = quiet i
+night-fits zero (suc i) l m = quiet 7 i
+night-fits (suc zero) i l m = quiet manifoldCount i
+night-fits (suc (suc zero)) i l m = quiet manifoldCount i
+night-fits (suc (suc (suc zero))) i l m = quiet manifoldCount i
 night-fits (suc (suc (suc (suc s)))) i l m = absurd (omega arith)
 
 -- ---- the reports
@@ -89,14 +88,18 @@ longer-close =
 
 -- ---- the theorems' instances
 
-first : 0 < 4
+pub first-string : 0 < stringCount
 unfolding IsLe
-first = le-by-compare 1 4 tt
+first-string = le-by-compare 1 4 tt
+
+pub first-manifold : 0 < manifoldCount
+unfolding IsLe
+first-manifold = le-by-compare 1 8 tt
 
 earliest-by : (xs : List Exchanged) → Appears xs
     → Earliest 0x0000000F 0 0 (takenRecords nightMap (handing (majorBytes 75) ∷ madeOf xs))
 earliest-by xs x =
-    close-first nightMap night-fits night-accepted 0 0 first first (handing (majorBytes 75)) (madeOf xs) (x .answer) .0
+    close-first nightMap night-fits night-accepted 0 0 first-string first-manifold (handing (majorBytes 75)) (madeOf xs) (x .answer) .0
     (x .shown, inr (x .notBefore))
 
 pub feed-earliest : Earliest 0x0000000F 0 0 (takenRecords nightMap (handing (majorBytes 75) ∷ madeOf feedTo50))
@@ -108,9 +111,9 @@ longer-earliest = earliest-by longerTo50 longer-close
 -- one of the manifold's jets has been bad so up to record 75
 pub third-by-75 : ThirdSince 0x0000000F 0 0 (takenRecords nightMap (handing (majorBytes 75) ∷ madeOf feedTo50))
 third-by-75 =
-    close-shown nightMap night-fits night-accepted 0 0 first first (handing (majorBytes 75)) (madeOf feedTo50)
+    close-shown nightMap night-fits night-accepted 0 0 first-string first-manifold (handing (majorBytes 75)) (madeOf feedTo50)
     (ap writesReport (feed-close .answer)) .0 (feed-close .shown)
 
 -- and none up to record 50
 pub none-by-50 : ThirdSince 0x0000000F 0 0 (takenRecords nightMap (madeOf feedTo50)) → ⊥
-none-by-50 = close-never nightMap night-fits night-accepted 0 0 first first (madeOf feedTo50) .0 (feed-close .notBefore)
+none-by-50 = close-never nightMap night-fits night-accepted 0 0 first-string first-manifold (madeOf feedTo50) .0 (feed-close .notBefore)

@@ -4,7 +4,7 @@ use mathlib.Core.Path.{_≡_, refl, sym, ap, subst, _∙_}
 use mathlib.Core.Bool.{true}
 use mathlib.Core.List.{List, [], _∷_, _++_}
 use mathlib.Core.Logic.{inl}
-use Prim.Native.Nat.{ℕ, _<_}
+use Prim.Native.Nat.{ℕ}
 use native.Mathlib.Bridge.{le-by-compare, IsLe}
 use Rattle.bits.specs.Bit.{bit, without, meets, withBit, pack, any, every}
 use Rattle.bits.proofs.Yes.{not-both}
@@ -17,7 +17,7 @@ use Rattle.cycle.specs.Banks.{weighed, weighedAll}
 use Rattle.cycle.specs.Hall.{freshHall, minorStrings, majorStrings, taken, bothWays, unlessBothWays, verdictOn, stepped}
 use Rattle.cycle.specs.Inside.Runs.{hallAfter}
 use Rattle.cycle.specs.declared.answer.Answer.the-variants.{Taken}
-use Rattle.feed.specs.Format.{rowOf, markOf, total, sumOf, reservedZero, dropsZero, quantitiesRight, goodMajor, markedLook, look}
+use Rattle.feed.specs.Format.{rowOf, markOf, total, sumOf, reservedZero, quantitiesRight, goodMajor, markedLook, look}
 use Rattle.feed.specs.Reader.{settle, reads}
 use Rattle.feed.specs.Values.{samplesOf, minorOf, wordsAt, temperaturesOf, requestsOf, quantitiesOf, majorOf, valuesOf}
 use Rattle.feed.specs.Bytes.{parts}
@@ -39,12 +39,12 @@ use Rattle.promises.proofs.InstanceReads.{Stopping}
 use Rattle.promises.proofs.InstanceSteps.{Stepping, night-accepted}
 use Rattle.promises.proofs.InstanceCalls.{settling}
 use Rattle.promises.proofs.InstanceGiven.{feed-given}
-use Rattle.promises.proofs.InstanceClose.{night-fits, closeIn}
+use Rattle.promises.proofs.InstanceClose.{night-fits, closeIn, first-string, first-manifold}
 
 -- ---- record 100, computed
 
 read-whole : (isWhole repairBytes ≡ true) × (recordIn repairBytes ≡ repairBytes) × Stopping [] repairBytes 619 repairBytes []
-unfolding IsLe every rowOf markOf total sumOf reservedZero dropsZero quantitiesRight goodMajor markedLook look settle reads isWhole
+unfolding IsLe every rowOf markOf total sumOf reservedZero quantitiesRight goodMajor markedLook look settle reads isWhole
     warmWords repairBytes
 read-whole = (refl, refl, record { short = le-by-compare 0 618 tt; count = refl; stop = refl })
 
@@ -93,10 +93,7 @@ gone-since = (
   inl drop-taken,
 )
 
-first : 0 < 4
-unfolding IsLe
-first = le-by-compare 1 4 tt
-
 -- and no record is a third
 pub none-by-100 : ThirdSince 0x0000000F 0 0 (takenRecords nightMap (handing repairBytes ∷ madeOf upTo75)) → ⊥
-none-by-100 = close-never nightMap night-fits night-accepted 0 0 first first (handing repairBytes ∷ madeOf upTo75) .0 gone-since
+none-by-100 =
+    close-never nightMap night-fits night-accepted 0 0 first-string first-manifold (handing repairBytes ∷ madeOf upTo75) .0 gone-since

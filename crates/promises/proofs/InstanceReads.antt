@@ -7,7 +7,7 @@ use native.Mathlib.Bridge.{le-by-compare, IsLe}
 use lib.ListN.{length, take, drop}
 use Rattle.bits.specs.Bit.{every}
 use Rattle.feed.specs.Size.{mostHeld}
-use Rattle.feed.specs.Format.{rowOf, markOf, total, sumOf, reservedZero, dropsZero, quantitiesRight}
+use Rattle.feed.specs.Format.{rowOf, markOf, total, sumOf, reservedZero, quantitiesRight}
 use Rattle.feed.specs.Format.{goodMinor, goodMajor, markedLook, look}
 use Rattle.feed.specs.Reader.{settle, reads}
 use Rattle.feed.specs.Step.{isWhole}
@@ -18,7 +18,7 @@ use Rattle.promises.specs.Instance.{warmWords, majorBytes, minorBytes}
 
 pub records-whole : (isWhole (majorBytes 25) ≡ true) × (isWhole (majorBytes 50) ≡ true) × (isWhole (majorBytes 75) ≡ true)
     × (isWhole (minorBytes 10) ≡ true)
-unfolding every rowOf markOf total sumOf reservedZero dropsZero quantitiesRight goodMinor goodMajor markedLook look isWhole warmWords
+unfolding every rowOf markOf total sumOf reservedZero quantitiesRight goodMinor goodMajor markedLook look isWhole warmWords
     majorBytes minorBytes
 records-whole = (refl, refl, refl, refl)
 
@@ -48,7 +48,7 @@ pub reads-25 : Stopping [] (majorBytes 25) 619 (majorBytes 25) []
     × Stopping [] (majorBytes 25 ++ majorBytes 50) 619 (majorBytes 25) (majorBytes 50)
     × Stopping [] (majorBytes 25 ++ take 85 (majorBytes 50)) 619 (majorBytes 25) (take 85 (majorBytes 50))
     × Stopping [] (majorBytes 25 ++ take 385 (majorBytes 25)) 619 (majorBytes 25) (take 385 (majorBytes 25))
-unfolding IsLe every rowOf markOf total sumOf reservedZero dropsZero quantitiesRight goodMajor markedLook look settle reads warmWords
+unfolding IsLe every rowOf markOf total sumOf reservedZero quantitiesRight goodMajor markedLook look settle reads warmWords
     majorBytes
 reads-25 = (
   record { short = le-by-compare 0 618 tt; count = refl; stop = refl },
@@ -61,7 +61,7 @@ reads-25 = (
 pub reads-later : Stopping [] (majorBytes 50) 619 (majorBytes 50) []
     × Stopping [] (majorBytes 50 ++ take 15 (minorBytes 10)) 619 (majorBytes 50) (take 15 (minorBytes 10))
     × Stopping [] (majorBytes 75) 619 (majorBytes 75) []
-unfolding IsLe every rowOf markOf total sumOf reservedZero dropsZero quantitiesRight goodMajor markedLook look settle reads warmWords
+unfolding IsLe every rowOf markOf total sumOf reservedZero quantitiesRight goodMajor markedLook look settle reads warmWords
     majorBytes minorBytes
 reads-later = (
   record { short = le-by-compare 0 618 tt; count = refl; stop = refl },
@@ -85,7 +85,7 @@ pub reads-rest : Stopping (take 85 (majorBytes 50)) (drop 85 (majorBytes 50) ++ 
     × Stopping (take 385 (majorBytes 25)) (drop 385 (majorBytes 25) ++ (majorBytes 50 ++ take 15 (minorBytes 10))) 234 (majorBytes 25)
     (majorBytes 50 ++ take 15 (minorBytes 10))
     × Stopping (take 15 (minorBytes 10)) (drop 15 (minorBytes 10) ++ majorBytes 75) 44 (minorBytes 10) (majorBytes 75)
-unfolding IsLe every rowOf markOf total sumOf reservedZero dropsZero quantitiesRight goodMinor goodMajor markedLook look settle reads
+unfolding IsLe every rowOf markOf total sumOf reservedZero quantitiesRight goodMinor goodMajor markedLook look settle reads
     warmWords majorBytes minorBytes
 reads-rest = (
   record { short = le-by-compare 85 618 tt; count = refl; stop = refl },

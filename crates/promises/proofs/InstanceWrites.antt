@@ -13,12 +13,12 @@ use Rattle.cycle.specs.declared.values.Quantities.{Quantities}
 use Rattle.feed.specs.Bytes.{parts}
 use Rattle.feed.specs.Format.{total, sumOf}
 use Rattle.writer.specs.RecordBytes.{headBytes, sampleBytes, samplesBytes, commonBytes, beforeSum, summed, bytesOf}
-use Rattle.writer.specs.Write.{reservedZero, dropsZero, twoRight, quantitiesRight, checked, wrote, write}
+use Rattle.writer.specs.Write.{reservedZero, twoRight, quantitiesRight, checked, wrote, write}
 use Rattle.writer.specs.Fit.{FitSample, FitMinor, FitTemperatures, FitRequests, FitQuantities, FitRecord}
 use Rattle.writer.specs.Sent.{AllWritten, none, more}
 use Rattle.writer.specs.declared.answer.Writing.{Writing}
 use Rattle.writer.specs.declared.answer.Writing.the-variants.{Written, ReservedBit, QuantityAbove, OutboxShort}
-use Rattle.promises.specs.NightRecords.{sampleWith, quietSample, quietTemperatures, minorWith, majorWith, keeping, droppingWith}
+use Rattle.promises.specs.NightRecords.{quietSample, quietTemperatures, minorWith, majorWith, keeping, droppingWith}
 use Rattle.promises.specs.Nights.{fourTimes}
 
 -- ---- the first record of the nights, into an outbox of 61 bytes 07
@@ -28,7 +28,7 @@ firstValues = minor (minorWith 1 quietSample)
 
 pub first-written : write firstValues (replicate 61 7)
     ≡ wrote Written
-    ((0x52 ∷ 0x4D ∷ 0x00 ∷ 0x01 ∷ 0x00 ∷ fourTimes (replicate 12 0x00 ++ (0x0F ∷ [])) ++ (0x00 ∷ 0xDC ∷ [])) ++ (7 ∷ 7 ∷ []))
+    ((0x52 ∷ 0x4D ∷ 0x00 ∷ 0x01 ∷ 0x00 ∷ fourTimes (replicate 12 0x00 ++ (0xFF ∷ [])) ++ (0x04 ∷ 0x9C ∷ [])) ++ (7 ∷ 7 ∷ []))
 unfolding write checked reservedZero every bytesOf summed beforeSum commonBytes headBytes samplesBytes sampleBytes parts sumOf total
 first-written = refl
 
@@ -44,26 +44,36 @@ abbrev answer-of : Record → ℕ → Writing
 answer-of r room = (write r (replicate room 0)) .answer
 
 pub full-written : answer-of fullValues 619 ≡ Written
-unfolding write checked reservedZero dropsZero every quantitiesRight twoRight
+unfolding write checked reservedZero every quantitiesRight twoRight
 full-written = refl
 
 -- ---- each refusal, and their order
 
 pub short-refused : answer-of fullValues 618 ≡ OutboxShort
-unfolding write checked reservedZero dropsZero every quantitiesRight twoRight
+unfolding write checked reservedZero every quantitiesRight twoRight
 short-refused = refl
 
 pub quantity-refused : answer-of (major (majorWith 25 quietSample quietTemperatures (keeping 1000 1001 ∷ []))) 618 ≡ QuantityAbove
-unfolding write checked reservedZero dropsZero every quantitiesRight twoRight
+unfolding write checked reservedZero every quantitiesRight twoRight
 quantity-refused = refl
 
-pub reserved-refused : answer-of (major (majorWith 25 (sampleWith 0 0 0x10) quietTemperatures (keeping 1000 1001 ∷ []))) 618 ≡ ReservedBit
-unfolding write checked reservedZero dropsZero every quantitiesRight twoRight
+-- bit 4 of the path byte
+abbrev reservedValues : Record
+reservedValues = major (record {
+  minor = record { wire = 25; path = 0x10; samples = replicate 4 quietSample };
+  temperatures = replicate 4 quietTemperatures;
+  requests = replicate 4 noRequests;
+  quantities = keeping 1000 1001 ∷ [];
+})
+
+pub reserved-refused : answer-of reservedValues 618 ≡ ReservedBit
+unfolding write checked reservedZero every quantitiesRight twoRight
 reserved-refused = refl
 
-pub drop-refused : answer-of (major (droppingWith 25 0x10 (keeping 1000 1001 ∷ []))) 618 ≡ ReservedBit
-unfolding write checked reservedZero dropsZero every quantitiesRight twoRight
-drop-refused = refl
+-- 02, order 7: "the reserved-bit rules for valve and drop go": valve bytes FF, as a quiet sample has them, and a drop byte FF are written
+pub drops-written : answer-of (major (droppingWith 25 0xFF full)) 619 ≡ Written
+unfolding write checked reservedZero every quantitiesRight twoRight
+drops-written = refl
 
 -- ---- both sent: the premises of `sent-feed`
 

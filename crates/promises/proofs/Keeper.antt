@@ -37,7 +37,7 @@ use Rattle.feed.proofs.Reports.ReliedOn as relied
 module _ (masks : List Masks) (words : FitMap masks) (accepted : refused stringCount masks ≡ false) (c : Made) (cs : List Made)
     (written : writesReport (answerOf masks c cs) ≡ true) where
   -- jet j on manifold i of string s
-  module _ (s i j : ℕ) (string : s < 4) (manifold : i < 4) (stands : inMask (masksOf masks s) i j) where
+  module _ (s i j : ℕ) (string : s < 4) (manifold : i < 8) (stands : inMask (masksOf masks s) i j) where
     -- a jet with an inhibit in force is failed
     pub inhibited-failed : (run (jetHistory s i j (takenRecords masks (c ∷ cs)))) .over .inhibit ≡ true
         → bit j (four (reportIn masks c cs) (7 + 5 * s)) ≡ true
@@ -54,7 +54,7 @@ module _ (masks : List Masks) (words : FitMap masks) (accepted : refused stringC
     never-both-ways = never-both (jetHistory s i j (takenRecords masks (c ∷ cs)))
 
   -- a close bit goes only at a drop carried out: once in a report, it is in that of every later call d, unless a call up to d drops it
-  pub close-stays : (s i : ℕ) → s < 4 → i < 4 → Shows masks s i c cs → (later : List Made) (d : Made)
+  pub close-stays : (s i : ℕ) → s < 4 → i < 8 → Shows masks s i c cs → (later : List Made) (d : Made)
       → NoneTakesDrop masks s i (d ∷ later) (c ∷ cs)
       → writesReport (answerOf masks d (later ++ (c ∷ cs))) ≡ true → Shows masks s i d (later ++ (c ∷ cs))
   close-stays s i string manifold shown later d =

@@ -8,6 +8,7 @@ pub mod UniqueWriter
 pub mod UniqueLines
 pub mod Contracts
 pub mod ContractsParts
+pub mod NightRefusals
 pub mod Nights
 pub mod InstanceReads
 pub mod InstanceSteps

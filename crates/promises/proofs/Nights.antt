@@ -1,5 +1,5 @@
--- The one claim over the single list of nights: every entry holds, by computing the definitions from fresh through every cycle.
--- Assumes nothing.
+-- The one claim over the single list of nights: every entry holds, by computing the definitions from fresh through every cycle, but that
+-- a refusal leaves the hall as it was: that is a law (NightRefusals). Assumes nothing.
 use mathlib.Core.Path.{refl}
 use mathlib.Core.List.{List, [], _∷_, _++_}
 use Rattle.bits.specs.Bit.{bit, without, meets, withBit, pack, any, every}
@@ -10,7 +10,7 @@ use Rattle.cycle.specs.Words.{pathLost, recovered, gapped, offFailure, manifold
 use Rattle.cycle.specs.Words.{requested, leakWord, badJets, closeBits, rechecked, onFailure, kept, majorSteps, majorCycle}
 use Rattle.cycle.specs.Banks.{weighed, weighedAll}
 use Rattle.cycle.specs.Hall.{freshHall, started, minorStrings, majorStrings, taken, bothWays, unlessBothWays, verdictOn, stepped}
-use Rattle.feed.specs.Format.{rowOf, markOf, total, sumOf, reservedZero, dropsZero, quantitiesRight, goodMinor, goodMajor, markedLook}
+use Rattle.feed.specs.Format.{rowOf, markOf, total, sumOf, reservedZero, quantitiesRight, goodMinor, goodMajor, markedLook}
 use Rattle.feed.specs.Format.{look}
 use Rattle.feed.specs.Reader.{settle, reads}
 use Rattle.feed.specs.Values.{samplesOf, minorOf, wordsAt, temperaturesOf, requestsOf, quantitiesOf, majorOf, valuesOf}
@@ -20,22 +20,25 @@ use Rattle.feed.specs.Report.{headOf, stringBytes, stringsBytes, balanceOf, les
 use Rattle.feed.specs.Call.{startedOver, called, call}
 use Rattle.promises.specs.Instance.{warmWords}
 use Rattle.promises.specs.NightHolds.{Night, EachHolds, outcomes, beforeRefusals, afterRefusals, calls, cycles}
+use Rattle.promises.specs.NightRecords.{nightMap}
 use Rattle.promises.specs.NightsOfLeaks.{temperatureNights, frozenNights}
 use Rattle.promises.specs.NightsOfJets.{jetNights}
 use Rattle.promises.specs.NightsOfRequests.{requestNights}
 use Rattle.promises.specs.NightsOfBothWays.{bothWaysNights}
 use Rattle.promises.specs.NightsOfDrops.{repairNights, dropNights}
 use Rattle.promises.specs.NightsOfManifolds.{manifoldNights}
+use Rattle.promises.specs.NightsOfEight.{eightManifoldNights}
 use Rattle.promises.specs.NightsOfPaths.{pathNights}
 use Rattle.promises.specs.NightsOfLostValves.{lostValveNights}
-use Rattle.promises.specs.Nights.{starredNights, nights}
+use Rattle.promises.specs.Nights.{wires, starredNights, nights}
+use Rattle.promises.proofs.NightRefusals.{holds-by}
 
 -- whoever unfolds this unfolds every definition that a night computes with
 computed : Unit {0}
 unfolding bit without meets withBit pack any every each table mapped overlap refused isMajor missedMajor following judgedAt judged pathLost
     recovered gapped offFailure manifold passed manifolds requested leakWord badJets closeBits rechecked onFailure kept minorSteps
     majorSteps minorCycle majorCycle weighed weighedAll freshHall started minorStrings majorStrings taken bothWays unlessBothWays verdictOn
-    stepped rowOf markOf total sumOf reservedZero dropsZero quantitiesRight goodMinor goodMajor markedLook look settle reads samplesOf
+    stepped rowOf markOf total sumOf reservedZero quantitiesRight goodMinor goodMajor markedLook look settle reads samplesOf
     minorOf wordsAt temperaturesOf requestsOf quantitiesOf majorOf valuesOf isWhole stepOf parts headOf stringBytes stringsBytes balanceOf
     lesserBytes banksBytes reportOf startedOver called call outcomes beforeRefusals afterRefusals calls cycles warmWords
 computed = tt
@@ -44,7 +47,7 @@ computed = tt
 
 nights-hold-starred : EachHolds starredNights
 unfolding computed starredNights
-nights-hold-starred = (refl, (refl, (refl, (refl, (refl, (refl, (refl, (refl, tt))))))))
+nights-hold-starred = (refl, (refl, (refl, (refl, (refl, (refl, (holds-by nightMap wires refl refl, (refl, tt))))))))
 
 nights-hold-of-temperatures : EachHolds temperatureNights
 unfolding computed temperatureNights
@@ -78,6 +81,10 @@ nights-hold-of-manifolds : EachHolds manifoldNights
 unfolding computed manifoldNights
 nights-hold-of-manifolds = (refl, (refl, (refl, (refl, (refl, (refl, tt))))))
 
+nights-hold-of-eight : EachHolds eightManifoldNights
+unfolding computed eightManifoldNights
+nights-hold-of-eight = (refl, (refl, (refl, (refl, tt))))
+
 nights-hold-of-paths : EachHolds pathNights
 unfolding computed pathNights
 nights-hold-of-paths = (refl, (refl, (refl, (refl, (refl, (refl, (refl, tt)))))))
@@ -102,4 +109,5 @@ nights-hold =
     (both-hold lostValveNights _ nights-hold-of-lost-valves
     (both-hold frozenNights _ nights-hold-frozen
     (both-hold bothWaysNights _ nights-hold-of-both-ways
-    (both-hold repairNights dropNights nights-hold-of-repairs nights-hold-of-drops)))))))))
+    (both-hold repairNights _ nights-hold-of-repairs
+    (both-hold dropNights eightManifoldNights nights-hold-of-drops nights-hold-of-eight))))))))))

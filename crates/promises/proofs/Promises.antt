@@ -10,16 +10,16 @@ use mathlib.Core.Logic.{_⊎_, _↔_}
 use Prim.Native.Nat.{ℕ, _+_, _*_, _/_, _%_, _<_, _≤_}
 use lib.ListN.{length, getD, take}
 use Rattle.bits.specs.Bit.{bit, any}
-use Rattle.cycle.specs.Size.{stringCount, manifoldCount}
+use Rattle.cycle.specs.Size.{stringCount}
 use Rattle.cycle.specs.Answers.{numberOf, isTaken, writesReport}
 use Rattle.cycle.specs.Jets.{JetRecord, isBad, dropsAt, reached, run, cycle, asksAt}
 use Rattle.cycle.specs.Words.{manifolds}
 use Rattle.cycle.specs.Records.{Record, minor}
-use Rattle.cycle.specs.Hall.{sampleOf, stringOf, stepped}
+use Rattle.cycle.specs.Hall.{sampleOf, stringOf, freshHall, stepped}
 use Rattle.cycle.specs.Views.{jetOf}
 use Rattle.cycle.specs.Proper.{ProperHall}
 use Rattle.cycle.specs.BothWays.{NamedBothWays, NoneBefore}
-use Rattle.cycle.specs.Turns.{FourTurns, Shaped, beforeTurns}
+use Rattle.cycle.specs.Turns.{TurnByTurn, Shaped, beforeTurns}
 use Rattle.cycle.specs.Unmapped.{Alike, UnmappedNone}
 use Rattle.cycle.specs.Map.{masksOf, inMask, FitMap, refused}
 use Rattle.cycle.specs.Close.{Rising, Third}
@@ -31,6 +31,7 @@ use Rattle.cycle.specs.declared.map.Masks.{Masks}
 use Rattle.cycle.specs.declared.string.StringState.{StringState}
 use Rattle.cycle.specs.declared.values.Minor.{Minor}
 use Rattle.cycle.proofs.Close.{asks-third}
+use Rattle.cycle.proofs.HallStrings as halls
 use Rattle.cycle.proofs.Verdicts as verdicts
 use Rattle.cycle.proofs.Turns as turns
 use Rattle.cycle.proofs.TurnsTaken as turning
@@ -111,22 +112,27 @@ pub only-call : (f : Monitor → List ℕ → List ℕ → Result)
     → (m : Monitor) (piece out : List ℕ) → f m piece out ≡ call m piece out
 only-call = only.only-call
 
--- starting: 6 if and only if some jet stands in two masks of one string; the map may come as 64 bytes
+-- starting: 6 if and only if some jet stands in two masks of one string; the map may come as bytes, 02, order 7: "128 bytes of masks"
 pub starts : (masks : List Masks) → FitMap masks → Starts masks (startedOver masks)
 starts = starting.starts-exactly
 
-pub starts-from : (l : List ℕ) → length l ≡ 64 → startedFrom l ≡ startedOver (masksOfBytes l)
+pub starts-from : (l : List ℕ) → length l ≡ 128 → startedFrom l ≡ startedOver (masksOfBytes l)
 starts-from = starting.starts-from
 
-pub no-map : (l : List ℕ) → (length l ≡ 64 → ⊥) → (startedFrom l) .answer ≡ NothingSettled
+pub no-map : (l : List ℕ) → (length l ≡ 128 → ⊥) → (startedFrom l) .answer ≡ NothingSettled
 no-map = starting.no-map
 
-pub mask-at : (l : List ℕ) (s i : ℕ) → s < 4 → i < 4
-    → getD (masksOf (masksOfBytes l) s) i 0 ≡ four l (16 * s + 4 * i)
+pub mask-at : (l : List ℕ) (s i : ℕ) → s < 4 → i < 8
+    → getD (masksOf (masksOfBytes l) s) i 0 ≡ four l (32 * s + 4 * i)
 mask-at = starting.mask-at
 
 pub bytes-fit : (l : List ℕ) → ((i : ℕ) → getD l i 0 < 256) → FitMap (masksOfBytes l)
 bytes-fit = starting.bytes-fit
+
+-- 02, order 7: "At fresh all eight are remembered as open": a bit for each of the eight and no other, in the good copy too
+pub fresh-open : (masks : List Masks) (s : ℕ) → s < 4
+    → ((stringOf (freshHall masks) s) .standing .valves ≡ 0xFF) × ((stringOf (freshHall masks) s) .good .valves ≡ 0xFF)
+fresh-open = halls.fresh-open
 
 -- ---- Demand 3, cutting, from fresh: "cut the feed anywhere, put in whole stale or repeated records where the reader holds no bytes, call
 -- with a long enough outbox until all is used and the last call settled nothing: the reports that answer 'taken' are the same byte for
@@ -172,7 +178,7 @@ module _ (masks : List Masks) (words : FitMap masks) (accepted : refused stringC
   pub taken-one-way : (cs : List Made) → Each (λ t. BothWaysSaid masks (t .bytes) → ⊥) (takenRecords masks cs)
   taken-one-way = oneWay.one-way-taken masks words accepted
 
-  pub jet-one-way : (s i j : ℕ) → s < 4 → i < 4 → inMask (masksOf masks s) i j → (cs : List Made)
+  pub jet-one-way : (s i j : ℕ) → s < 4 → i < 8 → inMask (masksOf masks s) i j → (cs : List Made)
       → Each (λ t. ((jetHeard s i j t) .inhibit && (jetHeard s i j t) .reenable) ≡ false) (takenRecords masks cs)
   jet-one-way = oneWay.jet-one-way masks words accepted
 
@@ -185,7 +191,7 @@ module _ (masks : List Masks) (words : FitMap masks) (accepted : refused stringC
   -- Demand 3, close, for manifold i of string s. 02, order 6: "Demand 3 now speaks of the first close since fresh, or at or after the last
   -- drop carried out, that cycle included; the three bad major cycles may reach back before the drop." 02, order 4: "A record so refused is
   -- not taken, so for demand 3 that major cycle is missed, unless a later record for the same cycle is taken.": `both-ways-missed`, below
-  module _ (s i : ℕ) (string : s < 4) (manifold : i < 4) where
+  module _ (s i : ℕ) (string : s < 4) (manifold : i < 8) where
     -- the close command is in a report if and only if some record taken, since fresh or at or after the last drop carried out, is such a
     -- third major cycle
     pub close-shown : (c : Made) (cs : List Made) → writesReport (answerOf masks c cs) ≡ true
@@ -235,7 +241,7 @@ pub call-proper : (m : Monitor) (piece out : List ℕ) → ProperHall (m .hall) 
 call-proper = handed.call-proper
 
 module _ (m : Monitor) (piece out : List ℕ) (proper : ProperHall (m .hall)) (taken : (call m piece out) .outcome .answer ≡ Taken) (s i : ℕ)
-    (string : s < 4) (manifold : i < 4) where
+    (string : s < 4) (manifold : i < 8) where
   -- the record taken, and the number that it led to
   abbrev newest : Heard
   newest = record { n = (call m piece out) .outcome .monitor .hall .n; bytes = recordIn (holds m ++ piece) }
@@ -261,26 +267,26 @@ module _ (m : Monitor) (piece out : List ℕ) (proper : ProperHall (m .hall)) (t
       → bit i ((stringOf ((call m piece out) .outcome .monitor .hall) s) .close) ≡ asking
   drop-steps = handed.drop-steps m piece out proper taken s i string manifold
 
--- Step 4 of any string, also with overlapping masks and saved sets beyond them: the manifolds' turns, lowest first; and so a minor record
--- that any hall takes, string by string.
-pub four-turns : (masks : List ℕ) (now : ℕ) (s : StringState) → length (s .standing .saved) ≡ 4
-    → FourTurns masks now s (manifolds manifoldCount masks now s)
-four-turns = turns.four-turns
+-- Step 4 of any string, also with overlapping masks and saved sets beyond them: the manifolds' turns, lowest first. 02, order 7: "State the
+-- manifold rule once over the number of manifolds": for every m. And so, of eight, a minor record that any hall takes, string by string.
+pub turn-by-turn : (m : ℕ) (masks : List ℕ) (now : ℕ) (s : StringState) → length (s .standing .saved) ≡ m
+    → TurnByTurn m masks now s (manifolds m masks now s)
+turn-by-turn = turns.turn-by-turn
 
-pub turns-taken : (h : Hall) → Shaped h → (r : Minor) (s : ℕ) → s < 4 → bit s (r .path) ≡ false
+pub turns-taken : (h : Hall) → Shaped 8 h → (r : Minor) (s : ℕ) → s < 4 → bit s (r .path) ≡ false
     → isTaken ((stepped (minor r) h) .answer) ≡ true
-    → FourTurns (masksOf (h .masks) s) ((sampleOf r s) .valves) (beforeTurns h r ((stepped (minor r) h) .hall .n) s)
+    → TurnByTurn 8 (masksOf (h .masks) s) ((sampleOf r s) .valves) (beforeTurns h r ((stepped (minor r) h) .hall .n) s)
     (stringOf ((stepped (minor r) h) .hall) s)
 turns-taken = turning.turns-taken
 
 -- 02, order 4, of values handed straight to the hall: 7 if and only if none of 1 to 4 applies and a mapped jet is named both ways; 0 if and
 -- only if none of 1 to 4 applies and none is
 pub hall-both-ways : (r : Record) (h : Hall)
-    → ((stepped r h) .answer ≡ BothWays) ↔ (NoneBefore (h .n) r × NamedBothWays (h .masks) r)
+    → ((stepped r h) .answer ≡ BothWays) ↔ (NoneBefore (h .n) r × NamedBothWays 8 (h .masks) r)
 hall-both-ways = verdicts.hall-both-ways
 
 pub hall-takes : (r : Record) (h : Hall)
-    → ((stepped r h) .answer ≡ Taken) ↔ (NoneBefore (h .n) r × (NamedBothWays (h .masks) r → ⊥))
+    → ((stepped r h) .answer ≡ Taken) ↔ (NoneBefore (h .n) r × (NamedBothWays 8 (h .masks) r → ⊥))
 hall-takes = verdicts.hall-takes
 
 -- "Bits and temperatures of jets in no mask are ignored everywhere": two records that agree on all but those step every hall alike; and

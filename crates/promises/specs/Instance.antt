@@ -7,9 +7,9 @@ use Rattle.feed.specs.Bytes.{inTwo, inFour}
 
 -- ---- the records
 
--- of a string: nothing commanded, no pressure, the drivers that are on, all four valves open
+-- of a string: nothing commanded, no pressure, the drivers that are on, all valves open
 abbrev pub sampleBytes : ℕ → List ℕ
-sampleBytes driver = replicate 8 0x00 ++ inFour driver ++ (0x0F ∷ [])
+sampleBytes driver = replicate 8 0x00 ++ inFour driver ++ (0xFF ∷ [])
 
 -- the wire cycle, no path failed, string 0 with these drivers on, strings 1 to 3 quiet
 abbrev pub commonBytes : ℕ → ℕ → List ℕ
@@ -22,16 +22,16 @@ warmWords (suc n) = 0x00 ∷ 0x40 ∷ warmWords n
 
 -- a major record, 619 bytes: driver of jet 1 of string 0 on, no command; no requests, the quantities are 0
 unfoldable pub majorBytes : ℕ → List ℕ
-majorBytes wire = 0x52 ∷ 0x4A ∷ commonBytes wire 0x00000002 ++ warmWords 256 ++ replicate 48 0x00 ++ inTwo (16602 + wire)
+majorBytes wire = 0x52 ∷ 0x4A ∷ commonBytes wire 0x00000002 ++ warmWords 256 ++ replicate 48 0x00 ++ inTwo (17562 + wire)
 
 -- the major record 100: no driver is on, and the close bit of manifold 0 of string 0 is to be dropped
 unfoldable pub repairBytes : List ℕ
 repairBytes =
-    0x52 ∷ 0x4A ∷ commonBytes 100 0x00000000 ++ warmWords 256 ++ replicate 32 0x00 ++ (0x01 ∷ replicate 15 0x00) ++ inTwo 16701
+    0x52 ∷ 0x4A ∷ commonBytes 100 0x00000000 ++ warmWords 256 ++ replicate 32 0x00 ++ (0x01 ∷ replicate 15 0x00) ++ inTwo 17661
 
 -- a quiet minor record, 59 bytes
 unfoldable pub minorBytes : ℕ → List ℕ
-minorBytes wire = 0x52 ∷ 0x4D ∷ commonBytes wire 0x00000000 ++ inTwo (219 + wire)
+minorBytes wire = 0x52 ∷ 0x4D ∷ commonBytes wire 0x00000000 ++ inTwo (1179 + wire)
 
 -- ---- the feeds
 

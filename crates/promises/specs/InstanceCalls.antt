@@ -48,7 +48,7 @@ Given (x ∷ xs) = (resultOf nightMap (handing (x .piece)) (madeOf xs) ≡ x .re
 
 -- the values of the major record with this wire cycle, and the halls after those of 25, 50 and 75
 abbrev pub driven : ℕ → Record
-driven wire = recordOfSample wire (sampleWith 0 0x00000002 0x0F)
+driven wire = recordOfSample wire (sampleWith 0 0x00000002 0xFF)
 
 unfoldable pub hallAt25 : Hall
 hallAt25 = hallAfter nightMap (driven 25 ∷ [])

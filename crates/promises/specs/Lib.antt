@@ -8,6 +8,7 @@ pub mod NightsOfRequests
 pub mod NightsOfBothWays
 pub mod NightsOfDrops
 pub mod NightsOfManifolds
+pub mod NightsOfEight
 pub mod NightsOfPaths
 pub mod NightsOfLostValves
 pub mod Nights

@@ -22,11 +22,11 @@ use Rattle.promises.specs.NightHolds.{Handed}
 -- strings 0 and 1 have one manifold each
 abbrev pub twoStringMap : List Masks
 twoStringMap =
-    record { words = 0x0000000F ∷ 0 ∷ 0 ∷ 0 ∷ [] } ∷ record { words = 0x000000F0 ∷ 0 ∷ 0 ∷ 0 ∷ [] } ∷ noMasks ∷ noMasks ∷ []
+    record { words = 0x0000000F ∷ replicate 7 0 } ∷ record { words = 0x000000F0 ∷ replicate 7 0 } ∷ noMasks ∷ noMasks ∷ []
 
 -- string 0 has three
 abbrev pub threeManifoldMap : List Masks
-threeManifoldMap = record { words = 0x0000000F ∷ 0x000000F0 ∷ 0x00000F00 ∷ 0 ∷ [] } ∷ noMasks ∷ noMasks ∷ noMasks ∷ []
+threeManifoldMap = record { words = 0x0000000F ∷ 0x000000F0 ∷ 0x00000F00 ∷ replicate 5 0 } ∷ noMasks ∷ noMasks ∷ noMasks ∷ []
 
 -- ---- what a record says of one string
 
@@ -39,16 +39,16 @@ quiet = record { sample = quietSample; requests = noRequests }
 
 -- jets commanded, without pressure
 abbrev pub commanding : ℕ → Said
-commanding jets = record { sample = sampleWith jets 0 0x0F; requests = noRequests }
+commanding jets = record { sample = sampleWith jets 0 0xFF; requests = noRequests }
 
 -- jets commanded, those that have pressure, and the drivers that are on
 abbrev pub firing : ℕ → ℕ → ℕ → Said
 firing commanded pressure driver =
-    record { sample = record { commanded = commanded; pressure = pressure; driver = driver; valves = 0x0F }; requests = noRequests }
+    record { sample = record { commanded = commanded; pressure = pressure; driver = driver; valves = 0xFF }; requests = noRequests }
 
 -- drivers on, without command
 abbrev pub driving : ℕ → Said
-driving jets = record { sample = sampleWith 0 jets 0x0F; requests = noRequests }
+driving jets = record { sample = sampleWith 0 jets 0xFF; requests = noRequests }
 
 -- only these valves are open
 abbrev pub valves : ℕ → Said

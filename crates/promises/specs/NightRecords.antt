@@ -21,14 +21,14 @@ use Rattle.feed.specs.Size.{temperatureCount}
 
 -- "Map: string 0, manifold 0 = 0000000F, others zero."
 abbrev pub nightMap : List Masks
-nightMap = record { words = 0x0000000F ∷ 0 ∷ 0 ∷ 0 ∷ [] } ∷ noMasks ∷ noMasks ∷ noMasks ∷ []
+nightMap = record { words = 0x0000000F ∷ replicate 7 0 } ∷ noMasks ∷ noMasks ∷ noMasks ∷ []
 
 -- of a string: the jets commanded, without pressure, the drivers that are on, the valves that are open
 abbrev pub sampleWith : ℕ → ℕ → ℕ → Sample
 sampleWith commanded driver valves = record { commanded = commanded; pressure = 0; driver = driver; valves = valves }
 
 abbrev pub quietSample : Sample
-quietSample = sampleWith 0 0 0x0F
+quietSample = sampleWith 0 0 0xFF
 
 abbrev pub quietTemperatures : Temperatures
 quietTemperatures = record { words = replicate temperatureCount 64 }

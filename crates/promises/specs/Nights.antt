@@ -17,10 +17,12 @@ use Rattle.promises.specs.NightsOfRequests.{requestNights}
 use Rattle.promises.specs.NightsOfBothWays.{bothWaysNights}
 use Rattle.promises.specs.NightsOfDrops.{repairNights, dropNights}
 use Rattle.promises.specs.NightsOfManifolds.{manifoldNights}
+use Rattle.promises.specs.NightsOfEight.{eightManifoldNights}
 use Rattle.promises.specs.NightsOfPaths.{pathNights}
 use Rattle.promises.specs.NightsOfLostValves.{lostValveNights}
 
--- "First record 52 4D 00 01 00, then four times (twelve 00, then 0F), sum 00 DC. Report: 52 52 00 00 00 00 01, then 27 bytes 00."
+-- "First record 52 4D 00 01 00, then four times (twelve 00, then ..)": 02, order 7, "each 0F becomes FF and the sum 04 9C". "Report:
+-- 52 52 00 00 00 00 01, then 27 bytes 00."
 abbrev pub fourTimes : List ℕ → List ℕ
 fourTimes l = l ++ l ++ l ++ l
 
@@ -28,7 +30,7 @@ abbrev pub firstRecord : Night
 firstRecord =
     feeding nightMap
     (record {
-      bytes = 0x52 ∷ 0x4D ∷ 0x00 ∷ 0x01 ∷ 0x00 ∷ fourTimes (replicate 12 0x00 ++ (0x0F ∷ [])) ++ (0x00 ∷ 0xDC ∷ []);
+      bytes = 0x52 ∷ 0x4D ∷ 0x00 ∷ 0x01 ∷ 0x00 ∷ fourTimes (replicate 12 0x00 ++ (0xFF ∷ [])) ++ (0x04 ∷ 0x9C ∷ []);
       answer = Taken;
       report = 0x52 ∷ 0x52 ∷ 0x00 ∷ 0x00 ∷ 0x00 ∷ 0x00 ∷ 0x01 ∷ replicate 27 0x00;
     }
@@ -37,7 +39,7 @@ firstRecord =
 -- jet 0 commanded, no pressure, at the cycle n; good before the cycle `fails`, failed from it on
 abbrev pub noPressure : ℕ → ℕ → Exchange
 noPressure fails n =
-    record { given = recordOfSample n (sampleWith 0x00000001 0 0x0F); report = reportOfString 0 n (since fails 0x00000001 n) 0x00 }
+    record { given = recordOfSample n (sampleWith 0x00000001 0 0xFF); report = reportOfString 0 n (since fails 0x00000001 n) 0x00 }
 
 -- "Jet 0 commanded, no pressure at 1, 2, 3: good after 2, failed at 3."
 abbrev pub failsOff : Night
@@ -50,7 +52,7 @@ failsOffAfterGap = stepping nightMap (map (noPressure 6) (1 ∷ 2 ∷ 4 ∷ 5 �
 -- driver of jet 1 on, no command, if n is a major cycle; failed from 50 on, and the close bit from the cycle `closes` on
 abbrev pub driverOn : ℕ → ℕ → Exchange
 driverOn closes n = record {
-  given = recordOfSample n (atMajors n (sampleWith 0 0x00000002 0x0F));
+  given = recordOfSample n (atMajors n (sampleWith 0 0x00000002 0xFF));
   report = reportOfString 0 n (since 50 0x00000002 n) (since closes 0x01 n);
 }
 
@@ -71,11 +73,11 @@ valvesOpen n commanded valves fail =
 abbrev pub valveCloses : Night
 valveCloses =
     stepping nightMap
-    (valvesOpen 1 0x00000004 0x0F 0x00000000
-    ∷ valvesOpen 2 0x00000004 0x0F 0x00000000
-    ∷ valvesOpen 3 0x00000004 0x0F 0x00000004
-    ∷ valvesOpen 4 0x00000000 0x0E 0x0000000F
-    ∷ valvesOpen 5 0x00000000 0x0F 0x00000004
+    (valvesOpen 1 0x00000004 0xFF 0x00000000
+    ∷ valvesOpen 2 0x00000004 0xFF 0x00000000
+    ∷ valvesOpen 3 0x00000004 0xFF 0x00000004
+    ∷ valvesOpen 4 0x00000000 0xFE 0x0000000F
+    ∷ valvesOpen 5 0x00000000 0xFF 0x00000004
     ∷ [])
 
 -- a quiet minor record with this wire cycle, and what is reported: the answer and n
@@ -84,17 +86,19 @@ wired wire answer n = record { given = minor (minorWith wire quietSample); repor
 
 -- "Wire 0 after wire 65,535: taken. d = 32,767: taken. d = 32,768: stale." Fresh, d is 32,768 and then 32,767; then the same two again;
 -- then wires 65,535 and 0, and d is 32,768 once more
-abbrev pub wireWraps : Night
-wireWraps =
-    stepping nightMap
-    (wired 32768 1 0
+abbrev pub wires : List Exchange
+wires =
+    wired 32768 1 0
     ∷ wired 32767 0 32767
     ∷ wired 65535 1 32767
     ∷ wired 65534 0 65534
     ∷ wired 65535 0 65535
     ∷ wired 0 0 65536
     ∷ wired 32768 1 65536
-    ∷ [])
+    ∷ []
+
+abbrev pub wireWraps : Night
+wireWraps = stepping nightMap wires
 
 -- "Quantities 500 and 516: balanced. 500 and 517: not. Equal: fuel is the lesser." Modules 0, 1 and 2 in this order: at 25 the lesser
 -- of two unequal quantities is the fuel, at 50 the oxidizer
@@ -123,7 +127,7 @@ unfoldable pub starredNights : List Night
 starredNights = firstRecord ∷ failsOff ∷ failsOffAfterGap ∷ failsOn ∷ failsOnAfterGap ∷ valveCloses ∷ wireWraps ∷ quantitiesBalance ∷ []
 
 -- the single list: those that 01 marks, as 02 amends them; those that pin each step where no law does; and those of 02, order 3, from
--- bytes to the close bit, and orders 4 and 6
+-- bytes to the close bit, and orders 4, 6 and 7
 unfoldable pub nights : List Night
 nights =
     starredNights
@@ -131,4 +135,4 @@ nights =
     ++ (jetNights
     ++ (requestNights
     ++ (manifoldNights
-    ++ (pathNights ++ (lostValveNights ++ (frozenNights ++ (bothWaysNights ++ (repairNights ++ dropNights)))))))))
+    ++ (pathNights ++ (lostValveNights ++ (frozenNights ++ (bothWaysNights ++ (repairNights ++ (dropNights ++ eightManifoldNights))))))))))

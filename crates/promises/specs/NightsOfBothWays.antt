@@ -18,7 +18,7 @@ stuckAt closes n = at n 0x00 (cond (isMajor n) (driving 0x00000002) quiet) (sinc
 -- behind 74 the record of the cycle 75 comes and names jet 0 both ways: answer 7, and the report is that of 74 but for the answer
 abbrev pub bothWaysAt75 : ℕ → Handed
 bothWaysAt75 driver = record {
-  bytes = recordBytes 75 0x00 (drivingAt 0x0F driver 0x00000001 0x00000001) quiet;
+  bytes = recordBytes 75 0x00 (drivingAt 0xFF driver 0x00000001 0x00000001) quiet;
   answer = BothWays;
   report = reportOfString 7 74 0x00000002 0x00;
 }

@@ -42,7 +42,7 @@ abbrev pub dropLost : Night
 dropLost =
     feeding nightMap
     (closedAt75
-    ++ (at 100 0x01 (dropping 0x0F quiet) 0x00000002 0x01
+    ++ (at 100 0x01 (dropping 0xFF quiet) 0x00000002 0x01
     ∷ at 125 0x00 quiet 0x00000002 0x01
     ∷ at 150 0x00 (dropping 0x01 quiet) 0x00000002 0x00
     ∷ []))
@@ -62,10 +62,10 @@ dropOfOne =
 abbrev pub nothingToDrop : Night
 nothingToDrop =
     feeding nightMap
-    (at 25 0x00 (dropping 0x0F (driving 0x00000002)) 0x00000000 0x00
-    ∷ at 50 0x00 (dropping 0x0F (driving 0x00000002)) 0x00000002 0x00
-    ∷ at 75 0x00 (dropping 0x0E (driving 0x00000002)) 0x00000002 0x01
-    ∷ at 100 0x00 (dropping 0x0E quiet) 0x00000002 0x01
+    (at 25 0x00 (dropping 0xFF (driving 0x00000002)) 0x00000000 0x00
+    ∷ at 50 0x00 (dropping 0xFF (driving 0x00000002)) 0x00000002 0x00
+    ∷ at 75 0x00 (dropping 0xFE (driving 0x00000002)) 0x00000002 0x01
+    ∷ at 100 0x00 (dropping 0xFE quiet) 0x00000002 0x01
     ∷ [])
 
 -- a drop at the second of three bad major cycles takes nothing from the third: close bit at 75; and one at 75 itself comes before step 6

@@ -24,7 +24,7 @@ use Rattle.feed.proofs.Calls.Batches.{batch-continues}
 use Rattle.feed.proofs.Calls.Growing.{hands-more, rest-of}
 use Rattle.watch.specs.Watched.{Fresh, Watched, ReportedFor}
 
--- 64 bytes of a map that is not refused start a fresh monitor
+-- 128 bytes of a map that is not refused start a fresh monitor
 pub fresh-from : (map : List ℕ) (s : Outcome) → length map ≡ mapLength → s ≡ startedFrom map → (s .answer ≡ MapRefused → ⊥)
     → Fresh (s .monitor) map
 unfolding startedOver started

@@ -13,8 +13,8 @@ use Rattle.feed.specs.Calls.{Made, monitorAfter, Hands}
 use Rattle.feed.specs.Batch.{allReports}
 use Rattle.feed.specs.declared.call.Monitor.{Monitor}
 
--- "the sixteen masks first (64 bytes ..)", "if the masks are short or refused it writes nothing": the monitor is fresh over these bytes, a
--- whole map that is accepted
+-- 02, order 7: "The program reads 128 bytes of masks"; "if the masks are short or refused it writes nothing": the monitor is fresh over
+-- these bytes, a whole map that is accepted
 pub record Fresh (start : Monitor) (map : List ℕ) : Type 0 where
   pub whole : length map ≡ mapLength
   pub accepted : refused stringCount (masksOfBytes map) ≡ false

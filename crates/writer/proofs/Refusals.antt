@@ -6,24 +6,21 @@ use mathlib.Core.Logic.{_⊎_, inl, inr, _↔_}
 use Prim.Native.Nat.{ℕ, _<_, _≤_}
 use native.Mathlib.Omega.{arith}
 use borrow.Author.Tests.{ltb-true, ltb-false, leb-true, leb-false}
-use lib.Dec.{ltb, leb}
+use lib.Dec.{leb}
 use lib.ListN.{length, getD, drop}
-use Rattle.bits.specs.Bit.{every}
 use Rattle.bits.proofs.Yes.{and-left, and-right, and-cases}
 use Rattle.bits.proofs.Every.{every-at, every-fails}
-use Rattle.cycle.specs.Size.{stringCount, moduleCount}
+use Rattle.cycle.specs.Size.{moduleCount}
 use Rattle.cycle.specs.Banks.{noQuantities}
-use Rattle.cycle.specs.Hall.{sampleOf}
 use Rattle.cycle.specs.Records.{Record, minor, major, common}
-use Rattle.cycle.specs.Views.{dropByte}
 use Rattle.cycle.specs.declared.values.Quantities.{Quantities}
 use Rattle.feed.specs.Size.{reservedFrom, mostQuantity}
 use Rattle.feed.proofs.Records.Lengths.{by-test, below-or}
 use Rattle.writer.specs.RecordBytes.{bytesOf, lengthBy}
-use Rattle.writer.specs.Write.{valvesZero, reservedZero, dropZero, dropsZero, noReserved, twoRight, moduleRight, quantitiesRight}
+use Rattle.writer.specs.Write.{reservedZero, noReserved, twoRight, moduleRight, quantitiesRight}
 use Rattle.writer.specs.Write.{allRight, Wrote, write}
 use Rattle.writer.specs.Answers.{numberOf}
-use Rattle.writer.specs.Refused.{HasReserved, inPath, inValves, inDrops, HasAbove, inFuel, inOxidizer, AboveIn, needed}
+use Rattle.writer.specs.Refused.{HasReserved, HasAbove, inFuel, inOxidizer, AboveIn, needed}
 use Rattle.writer.specs.Refused.{AnsweredWhen, Numbered}
 use Rattle.writer.specs.declared.answer.Writing.{Writing}
 use Rattle.writer.specs.declared.answer.Writing.the-variants.{Written, ReservedBit, QuantityAbove, OutboxShort}
@@ -32,54 +29,13 @@ use Rattle.writer.proofs.Answering.{reserved-refused, quantity-refused,
 
 -- ---- the tests, and what they say of the values
 
--- what records of both kinds have
-pub common-zero : (r : Record) → noReserved r ≡ true → reservedZero (common r) ≡ true
-common-zero (minor r) e = e
-common-zero (major r) e = and-left (reservedZero (r .minor)) (dropsZero (r .requests)) e
-
--- the drop bytes of a major one
-drop-zero : (r : Record) → noReserved r ≡ true → (s : ℕ) → s < stringCount → dropByte s r < reservedFrom
-unfolding dropsZero
-drop-zero (minor r) e s b = omega arith
-drop-zero (major r) e s b =
-    ltb-true _ reservedFrom
-    (every-at stringCount (dropZero (r .requests)) (and-right (reservedZero (r .minor)) (dropsZero (r .requests)) e) s b)
-
 pub none-reserved : (r : Record) → noReserved r ≡ true → HasReserved r → ⊥
 unfolding reservedZero
-none-reserved r e (inPath h) =
-    let m = common r in
-    let l = ltb-true (m .path) reservedFrom
-    (and-left (ltb (m .path) reservedFrom) (every stringCount (valvesZero m)) (common-zero r e)) in
-    omega arith
-none-reserved r e (inValves s b h) =
-    let m = common r in
-    let l = ltb-true ((sampleOf m s) .valves) reservedFrom
-    (every-at stringCount (valvesZero m)
-    (and-right (ltb (m .path) reservedFrom) (every stringCount (valvesZero m)) (common-zero r e)) s b) in
-    omega arith
-none-reserved r e (inDrops s b h) = omega (arith, drop-zero r e s b)
-
-common-reserved : (r : Record) → reservedZero (common r) ≡ false → HasReserved r
-unfolding reservedZero
-common-reserved r e = by (and-cases (ltb ((common r) .path) reservedFrom) (every stringCount (valvesZero (common r))) e)
-  where
-    by : (ltb ((common r) .path) reservedFrom ≡ false) ⊎ (every stringCount (valvesZero (common r)) ≡ false) → HasReserved r
-    by (inl p) = inPath (ltb-false ((common r) .path) reservedFrom p)
-    by (inr v) =
-        let x = every-fails stringCount (valvesZero (common r)) v in
-        inValves (x .0) (x .1) (ltb-false ((sampleOf (common r) (x .0)) .valves) reservedFrom (x .2))
+none-reserved r e h = omega (arith, ltb-true ((common r) .path) reservedFrom e)
 
 some-reserved : (r : Record) → noReserved r ≡ false → HasReserved r
-unfolding dropsZero
-some-reserved (minor r) e = common-reserved (minor r) e
-some-reserved (major r) e = by (and-cases (reservedZero (r .minor)) (dropsZero (r .requests)) e)
-  where
-    by : (reservedZero (r .minor) ≡ false) ⊎ (dropsZero (r .requests) ≡ false) → HasReserved (major r)
-    by (inl c) = common-reserved (major r) c
-    by (inr d) =
-        let x = every-fails stringCount (dropZero (r .requests)) d in
-        inDrops (x .0) (x .1) (ltb-false (dropByte (x .0) (major r)) reservedFrom (x .2))
+unfolding reservedZero
+some-reserved r e = ltb-false ((common r) .path) reservedFrom e
 
 module _ (l : List Quantities) where
   both-right : (m : ℕ) → m < moduleCount → quantitiesRight l ≡ true → twoRight (getD l m noQuantities) ≡ true

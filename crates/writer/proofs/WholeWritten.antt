@@ -3,36 +3,33 @@ use mathlib.Core.Path.{_≡_}
 use mathlib.Core.Bool.{true}
 use mathlib.Core.List.{List, _++_}
 use mathlib.Core.Logic.{inl, inr}
-use Prim.Native.Nat.{ℕ, _+_, _-_, _*_, _≤_, _<_}
+use Prim.Native.Nat.{ℕ, _+_, _-_, _*_, _≤_}
 use native.Mathlib.Nat.{mod-lt, zero-lt-suc}
 use native.Mathlib.Omega.{arith}
 use borrow.Author.Tests.{ltb-true, leb-true}
-use lib.Dec.{leb, ltb}
+use lib.Dec.{leb}
 use lib.ListN.{length, getD, length-append}
 use lib.Seq.{take-append-seam, getD-append-add}
-use Rattle.bits.specs.Bit.{every}
 use Rattle.bits.proofs.Yes.{and-left, and-right}
 use Rattle.bits.proofs.Every.{every-at, every-from}
-use Rattle.cycle.specs.Size.{stringCount, moduleCount}
+use Rattle.cycle.specs.Size.{moduleCount}
 use Rattle.cycle.specs.Banks.{noQuantities}
-use Rattle.cycle.specs.Hall.{sampleOf, noRequests}
 use Rattle.cycle.specs.Records.{Record, minor, major, common}
 use Rattle.cycle.specs.declared.values.Major.{Major}
-use Rattle.feed.specs.Size.{reservedFrom, mostQuantity, quantitiesFrom, quantitiesLength, samplesFrom, valvesIn, sampleLength}
-use Rattle.feed.specs.Size.{dropsFrom, sumLength}
+use Rattle.feed.specs.Size.{reservedFrom, mostQuantity, quantitiesFrom, quantitiesLength}
+use Rattle.feed.specs.Size.{sumLength}
 use Rattle.feed.specs.Bytes.{two, inTwo}
 use Rattle.feed.specs.Format.{total, sumOf}
 use Rattle.feed.specs.Format as format
-use Rattle.feed.specs.Good.{ReservedZero, DropsZero, SumRight, QuantitiesRight, WholeRecord}
+use Rattle.feed.specs.Good.{ReservedZero, SumRight, QuantitiesRight, WholeRecord}
 use Rattle.feed.proofs.Records.GoodParts.{quantities-to}
 use Rattle.writer.specs.RecordBytes.{beforeSum, summed, bytesOf}
-use Rattle.writer.specs.Write.{valvesZero, reservedZero, dropZero, dropsZero, noReserved, twoRight, moduleRight, quantitiesRight}
+use Rattle.writer.specs.Write.{reservedZero, noReserved, twoRight, moduleRight, quantitiesRight}
 use Rattle.writer.specs.Write.{allRight}
 use Rattle.writer.specs.Refused.{WholeOf}
 use Rattle.writer.proofs.Lengths.{bytes-length}
-use Rattle.writer.proofs.Places.{two-at, valves-at, drop-at, quantities-carried, marked, path-there, sample-stands, quantities-stand}
-use Rattle.writer.proofs.Places.{drops-stand, markBy, before-stands, common-stands}
-use Rattle.writer.proofs.Refusals.{common-zero}
+use Rattle.writer.proofs.Places.{two-at, quantities-carried, marked, path-there, quantities-stand}
+use Rattle.writer.proofs.Places.{markBy, before-stands, common-stands}
 
 -- the sum behind what it sums
 sum-right : (b : List ℕ) → SumRight (summed b)
@@ -48,26 +45,7 @@ module _ (r : Record) where
   reserved-right : reservedZero (common r) ≡ true → ReservedZero (bytesOf r)
   unfolding reservedZero
   reserved-right e =
-      let m = common r in
-      let path = and-left (ltb (m .path) reservedFrom) (every stringCount (valvesZero m)) e in
-      let valves = and-right (ltb (m .path) reservedFrom) (every stringCount (valvesZero m)) e in
-      let there = path-there (bytesOf r) (markBy r) m (common-stands r) in
-      let valve : (s : ℕ) → s < stringCount → getD (bytesOf r) (samplesFrom + sampleLength * s + valvesIn) 0 ≡ (sampleOf m s) .valves =
-      λ s b.
-      valves-at (bytesOf r) (sampleOf m s) (samplesFrom + sampleLength * s)
-      (sample-stands (bytesOf r) (markBy r) m (common-stands r) s b) in
-      record {
-        path = rw there (ltb-true (m .path) reservedFrom path);
-        valves = λ s b.
-            rw (valve s b) (ltb-true ((sampleOf m s) .valves) reservedFrom (every-at stringCount (valvesZero m) valves s b));
-      }
-
-drops-right : (r : Major) → dropsZero (r .requests) ≡ true → DropsZero (bytesOf (major r))
-unfolding dropsZero
-drops-right r e s b =
-    let l = bytesOf (major r) in
-    rw (drop-at l (getD (r .requests) s noRequests) (dropsFrom + s) (drops-stand l r (before-stands (major r)) s b))
-    (ltb-true _ reservedFrom (every-at stringCount (dropZero (r .requests)) e s b))
+      rw (path-there (bytesOf r) (markBy r) (common r) (common-stands r)) (ltb-true ((common r) .path) reservedFrom e)
 
 quantities-right : (r : Major) → quantitiesRight (r .quantities) ≡ true → QuantitiesRight (bytesOf (major r))
 unfolding quantitiesRight twoRight format.quantitiesRight
@@ -99,8 +77,7 @@ written-whole (major r) z q = record {
   long = bytes-length (major r);
   mark = marked (bytesOf (major r)) (markBy (major r)) (r .minor) (common-stands (major r));
   sum = sum-right (beforeSum (major r));
-  reserved = reserved-right (major r) (common-zero (major r) z);
-  drops = drops-right r (and-right (reservedZero (r .minor)) (dropsZero (r .requests)) z);
+  reserved = reserved-right (major r) z;
   quantities = quantities-right r q;
 }
 

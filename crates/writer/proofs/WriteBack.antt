@@ -7,17 +7,14 @@ use Prim.Native.Nat.{ℕ, _+_, _-_, _*_, _^_, _≤_, _<_}
 use native.Mathlib.Nat.{zero-add}
 use native.Mathlib.Omega.{arith}
 use borrow.Author.Tests.{lt-ltb}
-use lib.Dec.{ltb, eqb}
+use lib.Dec.{eqb}
 use lib.ListN.{length, getD, take}
 use lib.Seq.{take-all}
-use Rattle.bits.specs.Bit.{every}
-use Rattle.bits.proofs.Yes.{and-both}
 use Rattle.bits.proofs.Every.{every-at, every-from}
 use Rattle.cycle.specs.Size.{stringCount, moduleCount}
 use Rattle.cycle.specs.Banks.{noQuantities}
 use Rattle.cycle.specs.Hall.{noSample, noTemperatures, noRequests}
 use Rattle.cycle.specs.Records.{minor, major}
-use Rattle.cycle.specs.declared.values.Sample.{Sample}
 use Rattle.cycle.specs.declared.values.Requests.{Requests}
 use Rattle.cycle.specs.declared.values.Quantities.{Quantities}
 use Rattle.feed.specs.Size.{markByte, minorMark, majorMark, wireAt, wireLength, pathAt, samplesFrom, wordLength, valvesIn}
@@ -27,7 +24,7 @@ use Rattle.feed.specs.Size.{reservedFrom, dropsFrom}
 use Rattle.feed.specs.Bytes.{two, four, inTwo}
 use Rattle.feed.specs.Format.{sumOf}
 use Rattle.feed.specs.Format as format
-use Rattle.feed.specs.Good.{ReservedZero, DropsZero, SumRight, QuantitiesRight, MinorRecord, MajorRecord, WholeRecord}
+use Rattle.feed.specs.Good.{ReservedZero, SumRight, QuantitiesRight, MinorRecord, MajorRecord, WholeRecord}
 use Rattle.feed.specs.Values.{sampleAt, samplesOf, minorOf, wordsAt, temperaturesAt, temperaturesOf, requestsAt, requestsOf}
 use Rattle.feed.specs.Values.{quantitiesAt, quantitiesOf, majorOf, valuesOf}
 use Rattle.feed.proofs.Records.GoodParts.{quantities-from}
@@ -36,7 +33,7 @@ use Rattle.feed.proofs.Records.NumbersInBytes.{inTwo-two, inFour-four}
 use Rattle.writer.specs.RecordBytes.{headBytes, sampleBytes, samplesBytes, commonBytes, wordsBytes, temperaturesBytes}
 use Rattle.writer.specs.RecordBytes.{requestBytes, requestsBytes, dropBytes, dropsBytes, quantityBytes, quantitiesBytes}
 use Rattle.writer.specs.RecordBytes.{beforeSum, summed, bytesOf, lengthBy}
-use Rattle.writer.specs.Write.{valvesZero, reservedZero, dropZero, dropsZero, noReserved, twoRight, moduleRight, quantitiesRight}
+use Rattle.writer.specs.Write.{reservedZero, noReserved, twoRight, moduleRight, quantitiesRight}
 use Rattle.writer.specs.Write.{allRight}
 use Rattle.writer.specs.Fit.{FitSample, FitMinor, FitTemperatures, FitRequests, FitQuantities, FitMajor, FitRecord}
 use Rattle.feed.proofs.Records.Tables.{table-length}
@@ -57,19 +54,8 @@ major-read l m = rw (m .mark .1) refl
 
 module _ (l : List ℕ) where
   reserved-read : ReservedZero l → reservedZero (minorOf l) ≡ true
-  unfolding reservedZero minorOf samplesOf
-  reserved-read z =
-      let valves : (s : ℕ) → s < stringCount → (getD (samplesOf l) s noSample) .valves < reservedFrom =
-      table-holds _ (λ (x : Sample). x .valves < reservedFrom) noSample stringCount (z .valves) in
-      and-both (ltb (getD l pathAt 0) reservedFrom) (every stringCount (valvesZero (minorOf l))) (lt-ltb _ reservedFrom (z .path))
-      (every-from stringCount (valvesZero (minorOf l)) (λ s b. lt-ltb _ reservedFrom (valves s b)))
-
-  drops-read : DropsZero l → dropsZero (requestsOf l) ≡ true
-  unfolding dropsZero requestsOf
-  drops-read z =
-      let drops : (s : ℕ) → s < stringCount → (getD (requestsOf l) s noRequests) .drop < reservedFrom =
-      table-holds _ (λ (x : Requests). x .drop < reservedFrom) noRequests stringCount z in
-      every-from stringCount (dropZero (requestsOf l)) (λ s b. lt-ltb _ reservedFrom (drops s b))
+  unfolding reservedZero minorOf
+  reserved-read z = lt-ltb _ reservedFrom z
 
   quantities-read : QuantitiesRight l → quantitiesRight (quantitiesOf l) ≡ true
   unfolding quantitiesRight quantitiesOf twoRight format.quantitiesRight
@@ -84,7 +70,7 @@ module _ (l : List ℕ) where
   values-right (inl m) = rw (minor-read l m) (reserved-read (m .reserved), refl, sym (m .long))
   values-right (inr m) =
       rw (major-read l m) (
-        and-both (reservedZero (minorOf l)) (dropsZero (requestsOf l)) (reserved-read (m .reserved)) (drops-read (m .drops)),
+        reserved-read (m .reserved),
         quantities-read (m .quantities),
         sym (m .long),
       )

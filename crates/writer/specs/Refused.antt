@@ -6,20 +6,15 @@ use mathlib.Core.Logic.{_↔_}
 use Prim.Native.Nat.{ℕ, _<_, _≤_}
 use lib.ListN.{getD}
 use Rattle.cycle.specs.Banks.{noQuantities}
-use Rattle.cycle.specs.Hall.{sampleOf}
 use Rattle.cycle.specs.Records.{Record, minor, major, common}
-use Rattle.cycle.specs.Views.{dropByte}
 use Rattle.cycle.specs.declared.values.Quantities.{Quantities}
 use Rattle.feed.specs.Good.{MinorRecord, MajorRecord}
 use Rattle.writer.specs.declared.answer.Writing.{Writing}
 use Rattle.writer.specs.declared.answer.Writing.the-variants.{Written, ReservedBit, QuantityAbove, OutboxShort}
 
--- "a reserved bit": one of bits 4 to 7 of the path byte or of a string's valve byte, or, of a major record, of its drop byte (order 6),
--- which is then 16 or more
-pub data HasReserved (r : Record) : Type 0 where
-  inPath : 16 ≤ (common r) .path → HasReserved r
-  inValves : (s : ℕ) → s < 4 → 16 ≤ (sampleOf (common r) s) .valves → HasReserved r
-  inDrops : (s : ℕ) → s < 4 → 16 ≤ dropByte s r → HasReserved r
+-- "a reserved bit": one of bits 4 to 7 of the path byte, which is then 16 or more; order 7: "the reserved-bit rules for valve and drop go"
+abbrev pub HasReserved : Record → Type 0
+HasReserved r = 16 ≤ (common r) .path
 
 -- "a quantity above 1,000": the fuel or the oxidizer of a module; a minor record has none
 pub data HasAbove (quantities : List Quantities) : Type 0 where

@@ -6,37 +6,22 @@ use Prim.Native.Nat.{ℕ}
 use lib.Dec.{ltb, leb}
 use lib.ListN.{length, getD, drop}
 use Rattle.bits.specs.Bit.{every}
-use Rattle.cycle.specs.Size.{stringCount, moduleCount}
+use Rattle.cycle.specs.Size.{moduleCount}
 use Rattle.cycle.specs.Banks.{noQuantities}
-use Rattle.cycle.specs.Hall.{sampleOf, noRequests}
-use Rattle.cycle.specs.Records.{Record, minor, major}
+use Rattle.cycle.specs.Records.{Record, minor, major, common}
 use Rattle.cycle.specs.declared.values.Minor.{Minor}
-use Rattle.cycle.specs.declared.values.Requests.{Requests}
 use Rattle.cycle.specs.declared.values.Quantities.{Quantities}
 use Rattle.feed.specs.Size.{reservedFrom, mostQuantity}
 use Rattle.writer.specs.RecordBytes.{bytesOf, lengthBy}
 use Rattle.writer.specs.declared.answer.Writing.{Writing}
 use Rattle.writer.specs.declared.answer.Writing.the-variants.{Written, ReservedBit, QuantityAbove, OutboxShort}
 
--- the same tests as those of `feed`, `Format`, on values instead of bytes: the reserved bits of the path byte and of each string's valve
--- byte are zero
-abbrev pub valvesZero : Minor → ℕ → Bool
-valvesZero r s = ltb ((sampleOf r s) .valves) reservedFrom
-
+-- the same tests as those of `feed`, `Format`, on values instead of bytes: the reserved bits of the path byte, in either kind, are zero
 unfoldable pub reservedZero : Minor → Bool
-reservedZero r = ltb (r .path) reservedFrom && every stringCount (valvesZero r)
+reservedZero r = ltb (r .path) reservedFrom
 
--- those of each string's drop byte are
-abbrev pub dropZero : List Requests → ℕ → Bool
-dropZero requests s = ltb ((getD requests s noRequests) .drop) reservedFrom
-
-unfoldable pub dropsZero : List Requests → Bool
-dropsZero requests = every stringCount (dropZero requests)
-
--- a minor record has no drop bytes
 abbrev pub noReserved : Record → Bool
-noReserved (minor r) = reservedZero r
-noReserved (major r) = reservedZero (r .minor) && dropsZero (r .requests)
+noReserved r = reservedZero (common r)
 
 -- no quantity is "above 1,000"
 unfoldable pub twoRight : Quantities → Bool

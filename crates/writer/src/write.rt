@@ -5,7 +5,6 @@ ghost use Rattle.writer.specs.Write.{checked, wrote, write};
 use crate::answer::Writing;
 use crate::record::put_major;
 use crate::record::put_minor;
-use crate::test::drops_zero;
 use crate::test::quantities_right;
 use crate::test::reserved_zero;
 use cycle::values::Major;
@@ -46,10 +45,9 @@ pub fn write_major(values: Major, out: &mut [u8]) -> Writing
     ensures { λ r. ⌜ wrote r (now (out .exit)) ≡ write (major values) (now (out .entry)) ⌝ }
 {
     let minor = values.minor;
-    let requests = values.requests;
     let quantities = values.quantities;
     let answer = checked(
-        reserved_zero(minor) & drops_zero(requests),
+        reserved_zero(minor),
         quantities_right(quantities),
         MAJOR_LENGTH <= out.len(),
     );

@@ -1,5 +1,6 @@
 //! Named cases, and how often each of their variants was met.
 
+use crate::jet::MANIFOLDS;
 use std::fmt;
 
 /// A case's name, the number of its variants, and which of them a thing meets.
@@ -43,6 +44,18 @@ impl<Thing> fmt::Display for Cases<Thing> {
     fn fmt(&self, lines: &mut fmt::Formatter) -> fmt::Result {
         self.0.iter().try_for_each(|case| writeln!(lines, "{}: {:?}", case.name, case.met))
     }
+}
+
+/// Each manifold of each string, those of string 0 first.
+pub const EACH_MANIFOLD: usize = 4 * MANIFOLDS;
+
+/// Manifolds of all strings: bit i of byte s is for manifold i of string s.
+pub type Manifolds = [u8; 4];
+
+/// The numbers of these manifolds.
+pub fn each(manifolds: Manifolds) -> Vec<usize> {
+    let is_one = |number: &usize| (manifolds[number / MANIFOLDS] >> (number % MANIFOLDS)) % 2 == 1;
+    (0..EACH_MANIFOLD).filter(is_one).collect()
 }
 
 /// A variant if it holds.

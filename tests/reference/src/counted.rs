@@ -5,7 +5,10 @@ use crate::claim_cases::ClaimCases;
 use crate::drop_cases::DropCases;
 use crate::hall::{Hall, TAKEN};
 use crate::leak_cases::LeakCases;
+use crate::lost_cases::LostCases;
+use crate::manifold_cases::ManifoldCases;
 use crate::record::Record;
+use crate::state::masks_of;
 use std::fmt;
 
 #[derive(Clone, Debug)]
@@ -13,6 +16,8 @@ pub struct Counted {
     pub leaks: LeakCases,
     pub both_ways: BothWaysCases,
     pub drops: DropCases,
+    pub manifolds: ManifoldCases,
+    pub lost: LostCases,
     /// No feed hands in a state.
     pub claims: Option<ClaimCases>,
 }
@@ -23,6 +28,8 @@ impl Counted {
             leaks: LeakCases::default(),
             both_ways: BothWaysCases::of_feeds(),
             drops: DropCases::of_feeds(),
+            manifolds: ManifoldCases::default(),
+            lost: LostCases::default(),
             claims: None,
         }
     }
@@ -32,6 +39,8 @@ impl Counted {
             leaks: LeakCases::default(),
             both_ways: BothWaysCases::of_halls(),
             drops: DropCases::of_halls(),
+            manifolds: ManifoldCases::default(),
+            lost: LostCases::default(),
             claims: Some(ClaimCases::default()),
         }
     }
@@ -41,12 +50,15 @@ impl Counted {
         self.leaks.add_feed(input);
         self.both_ways.add_feed(input);
         self.drops.add_feed(input);
+        self.manifolds.add_feed(input);
+        self.lost.add_feed(input);
     }
 
-    /// The next record is for another hall.
-    pub fn begin(&mut self) {
+    /// The next record is for this hall.
+    pub fn begin(&mut self, hall: &Hall) {
         self.both_ways.begin();
         self.drops.begin();
+        self.manifolds.add_map(&masks_of(hall));
     }
 
     /// A call's answer, the hall before it, the record that it settled, or would settle with a longer outbox, the
@@ -59,10 +71,11 @@ impl Counted {
         after: &Hall,
         lost: &[Vec<u8>],
     ) {
-        lost.iter().for_each(|bytes| self.drops.add_lost(bytes));
+        lost.iter().for_each(|bytes| self.lost.add(bytes));
         if let Some(record) = settled {
             self.both_ways.add(answer, before, record);
             self.drops.add(answer, before, record, after);
+            self.manifolds.add(answer, before, record, after);
             if answer == TAKEN {
                 self.leaks.add_call(record, after);
             }
@@ -74,6 +87,8 @@ impl Counted {
         self.leaks.each_met(least)?;
         self.both_ways.each_met(least)?;
         self.drops.each_met(least)?;
+        self.manifolds.each_met(least)?;
+        self.lost.each_met(least)?;
         self.claims.iter().try_for_each(|claims| claims.each_met(least))
     }
 }
@@ -83,6 +98,8 @@ impl fmt::Display for Counted {
         write!(lines, "leaks, by the fuel word, by the oxidizer word, by both:\n{}", self.leaks)?;
         write!(lines, "jets named both ways:\n{}", self.both_ways)?;
         write!(lines, "close bits dropped:\n{}", self.drops)?;
+        write!(lines, "manifolds:\n{}", self.manifolds)?;
+        write!(lines, "records lost:\n{}", self.lost)?;
         self.claims.iter().try_for_each(|claims| write!(lines, "claims of held bytes:\n{claims}"))
     }
 }

@@ -3,11 +3,12 @@
 
 use crate::generate::Night;
 use crate::hall::{Hall, Masks};
+use crate::maps::{masks, union};
 use crate::random::Random;
 use crate::record::{Record, MAJOR, MINOR};
 use crate::report::Report;
 use crate::request::Request;
-use crate::world::{masks, name_both_ways, union};
+use crate::world::name_both_ways;
 
 #[derive(Clone, Debug)]
 pub struct Dispatch {

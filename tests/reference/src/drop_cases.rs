@@ -1,24 +1,27 @@
 //! The cases that the dropping of close bits has to meet, and how often it did.
 
-use crate::cases::{only, Cases, Named};
-use crate::feed::records_and_lost;
+use crate::cases::{each, only, Cases, Manifolds, Named, EACH_MANIFOLD};
+use crate::feed::records;
 use crate::hall::{Hall, BOTH_WAYS, COUNT_ENDED, OUTBOX_SHORT, REPEAT, STALE, TAKEN, WRONG_KIND};
-use crate::record::{Record, MAJOR};
+use crate::jet::{ALL_MANIFOLDS, MANIFOLDS};
+use crate::record::Record;
 use std::fmt;
 
-/// Bit i of byte s is for manifold i of string s.
-type Manifolds = [u8; 4];
-
-/// A drop is carried out where the record is taken and the string's path bit is clear. Manifold 0 to 3 of string 0
-/// come first, then those of string 1, and so on.
+/// A drop is carried out where the record is taken and the string's path bit is clear.
 const CASES: [Named<Asked>; 12] = [
-    ("a drop carried out, and the bit is gone: each manifold of each string", 16, |asked| each(asked.gone())),
-    ("a drop carried out, and step 6 sets the bit again: each manifold of each string", 16, |asked| {
-        each(asked.set_again())
+    ("a drop carried out, and the bit is gone: each manifold of each string", EACH_MANIFOLD, |asked| {
+        each(asked.gone())
     }),
-    ("a drop lost under a path fault, and the bit stays: each manifold of each string", 16, |asked| {
-        each(asked.lost())
-    }),
+    (
+        "a drop carried out, and step 6 sets the bit again: each manifold of each string",
+        EACH_MANIFOLD,
+        |asked| each(asked.set_again()),
+    ),
+    (
+        "a drop lost under a path fault, and the bit stays: each manifold of each string",
+        EACH_MANIFOLD,
+        |asked| each(asked.lost()),
+    ),
     (
         "a bit gone: under a path fault of other strings, in the record by which its path is back",
         2,
@@ -38,18 +41,14 @@ const CASES: [Named<Asked>; 12] = [
     ("a bit gone where d is 1, 2 to 25, more", 3, gone_by_distance),
 ];
 /// No feed comes to the end of the count, and the program's outbox is not short. No run sets the bit of a manifold
-/// without jets, nor bits 4 to 31 of a close word.
+/// without jets, nor the bits of a close word above the manifolds.
 const OF_HALLS: [Named<Asked>; 2] = [
     ("a drop of a set bit, answered 3, 5", 2, |asked| asked.answered(&[COUNT_ENDED, OUTBOX_SHORT])),
     ("a bit gone of a manifold without jets, of a close word with bits above", 2, gone_in_halls),
 ];
-const OF_LOST: [Named<Record>; 1] =
-    [("a major lost by one reserved drop bit alone: bits 4 to 7 of string 0, 1, 2, 3", 16, reserved_bit)];
-
 #[derive(Clone, Debug)]
 pub struct DropCases {
     asked: Cases<Asked>,
-    lost: Cases<Record>,
     history: History,
 }
 
@@ -91,12 +90,12 @@ impl DropCases {
     }
 
     fn with(asked: Cases<Asked>) -> DropCases {
-        DropCases { asked, lost: Cases::of(OF_LOST), history: History::default() }
+        DropCases { asked, history: History::default() }
     }
 
     /// What the program reads for a night.
     pub fn add_feed(&mut self, input: &[u8]) {
-        let (masks, records) = records_and_lost(input, |lost| self.add_lost(lost));
+        let (masks, records) = records(input);
         let mut hall = Hall::fresh(&masks);
         self.begin();
         for record in &records {
@@ -118,27 +117,15 @@ impl DropCases {
         self.asked.add(&asked);
     }
 
-    /// The bytes of a full record that was lost.
-    pub fn add_lost(&mut self, bytes: &[u8]) {
-        if bytes[1] == MAJOR {
-            let record = Record::of_values(true, &bytes[2..bytes.len() - 2]);
-            let has_right_sum = record.bytes() == bytes;
-            if has_right_sum {
-                self.lost.add(&record);
-            }
-        }
-    }
-
     /// Demands that every variant of every case was met that often.
     pub fn each_met(&self, least: u64) -> Result<(), String> {
-        self.asked.each_met(least).and_then(|()| self.lost.each_met(least))
+        self.asked.each_met(least)
     }
 }
 
 impl fmt::Display for DropCases {
     fn fmt(&self, lines: &mut fmt::Formatter) -> fmt::Result {
-        self.asked.fmt(lines)?;
-        self.lost.fmt(lines)
+        self.asked.fmt(lines)
     }
 }
 
@@ -171,7 +158,7 @@ impl Asked {
         let with_jets = |s: usize| {
             let has_jets =
                 |manifold: &usize| before.strings[s].jets.iter().any(|jet| jet.manifolds[*manifold]);
-            (0..4).filter(has_jets).map(|manifold| 1 << manifold).sum()
+            (0..MANIFOLDS).filter(has_jets).map(|manifold| 1 << manifold).sum()
         };
         let drops = record.major.as_ref().map(|major| major.strings.map(|string| string.drops));
         Asked {
@@ -195,7 +182,7 @@ impl Asked {
 
     /// The manifolds of which this holds, by their string's drops and close bits before and after.
     fn manifolds(&self, which: impl Fn(usize, u8, u8, u8) -> u8) -> Manifolds {
-        let close = |word: u32| (word % 16) as u8;
+        let close = |word: u32| (word & ALL_MANIFOLDS) as u8;
         [0, 1, 2, 3].map(|s| which(s, self.drops[s], close(self.before[s]), close(self.after[s])))
     }
 
@@ -236,10 +223,6 @@ impl Asked {
 
 fn meet(some: Manifolds, others: Manifolds) -> bool {
     (0..4).any(|s| some[s] & others[s] != 0)
-}
-
-fn each(manifolds: Manifolds) -> Vec<usize> {
-    (0..16).filter(|number| (manifolds[number / 4] >> (number % 4)) % 2 == 1).collect()
 }
 
 fn gone_by_path(asked: &Asked) -> Vec<usize> {
@@ -293,23 +276,6 @@ fn gone_by_distance(asked: &Asked) -> Vec<usize> {
 fn gone_in_halls(asked: &Asked) -> Vec<usize> {
     let gone = asked.gone();
     let without_jets = (0..4).any(|s| gone[s] & !asked.with_jets[s] != 0);
-    let with_more = (0..4).any(|s| gone[s] != 0 && asked.before[s] > 0x0F);
+    let with_more = (0..4).any(|s| gone[s] != 0 && asked.before[s] > ALL_MANIFOLDS);
     [only(without_jets, 0), only(with_more, 1)].concat()
-}
-
-fn reserved_bit(record: &Record) -> Vec<usize> {
-    let mut cleared = record.clone();
-    let strings = cleared.major.iter_mut().flat_map(|major| &mut major.strings);
-    let reserved: Vec<u8> = strings
-        .map(|string| {
-            let reserved = string.drops / 16;
-            string.drops %= 16;
-            reserved
-        })
-        .collect();
-    let is_else_good = Record::read(&cleared.bytes()).is_some();
-    match each(reserved.try_into().unwrap_or_default())[..] {
-        [one] => only(is_else_good, one),
-        _ => vec![],
-    }
 }

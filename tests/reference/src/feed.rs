@@ -1,25 +1,38 @@
 //! Runs over whole feeds, as the program does.
 
-use crate::hall::{Masks, NOTHING_SETTLED, TAKEN};
+use crate::hall::{Masks, EMPTY_MAP, NOTHING_SETTLED, TAKEN};
+use crate::jet::MANIFOLDS;
 use crate::monitor::Monitor;
 use crate::reader::look_and_tell;
 use crate::record::Record;
 use crate::report::REPORT_LENGTH;
+use std::array;
 
-pub const MASKS_LENGTH: usize = 64;
+/// Four strings, and four bytes for each mask.
+pub const MASKS_LENGTH: usize = 4 * STRING_MASKS_LENGTH;
+const STRING_MASKS_LENGTH: usize = 4 * MANIFOLDS;
 
 /// String by string, manifold 0 first, high byte first.
 pub fn masks_from(bytes: &[u8; MASKS_LENGTH]) -> Masks {
     let mask = |s: usize, i: usize| {
-        let at = 16 * s + 4 * i;
+        let at = STRING_MASKS_LENGTH * s + 4 * i;
         u32::from_be_bytes([bytes[at], bytes[at + 1], bytes[at + 2], bytes[at + 3]])
     };
-    [0, 1, 2, 3].map(|s| [0, 1, 2, 3].map(|i| mask(s, i)))
+    [0, 1, 2, 3].map(|s| array::from_fn(|i| mask(s, i)))
 }
 
 pub fn masks_bytes(masks: &Masks) -> [u8; MASKS_LENGTH] {
     let bytes: Vec<u8> = masks.iter().flatten().flat_map(|mask| mask.to_be_bytes()).collect();
-    bytes.try_into().expect("sixteen masks have 64 bytes")
+    bytes.try_into().expect("a mask has four bytes")
+}
+
+/// A start over the map that these bytes are. Bytes of any other number are no map: they settle nothing, and the
+/// monitor is a fresh one over the empty map.
+pub fn start_from(bytes: &[u8]) -> (u8, Monitor) {
+    match bytes.try_into() {
+        Ok(masks) => Monitor::start(masks_from(masks)),
+        Err(_) => (NOTHING_SETTLED, Monitor::start(EMPTY_MAP).1),
+    }
 }
 
 /// Calls until the piece is used up and nothing held settles; adds the reports.
@@ -38,11 +51,10 @@ pub fn settle_piece(monitor: &mut Monitor, mut piece: &[u8], reports: &mut Vec<u
 /// All reports for the program's whole input; none if the masks are short or refused.
 pub fn run(input: &[u8]) -> Vec<u8> {
     let mut reports = Vec::new();
-    if let Some((masks, feed)) = input.split_first_chunk::<MASKS_LENGTH>() {
-        let (answer, mut monitor) = Monitor::start(masks_from(masks));
-        if answer == TAKEN {
-            settle_piece(&mut monitor, feed, &mut reports);
-        }
+    let (masks, feed) = input.split_at(MASKS_LENGTH.min(input.len()));
+    let (answer, mut monitor) = start_from(masks);
+    if answer == TAKEN {
+        settle_piece(&mut monitor, feed, &mut reports);
     }
     reports
 }

@@ -1,161 +1,32 @@
 //! Halls that no run reaches, handed in whole: masks that overlap, saved sets beyond their masks,
 //! bits of jets in no mask, valves and close words with high bits, any n, any banks. Each with a few
-//! calls whose records are made to meet what the hall has; and how often each case was met.
+//! calls whose records are made to meet what the hall has.
 
 use crate::counted::Counted;
-use crate::hall::{overlap, Hall, BOTH_WAYS, NOTHING_SETTLED, OUTBOX_SHORT, TAKEN};
-use crate::jet::{bit, leaks, Jet};
+use crate::foreign_cases::ForeignCases;
+use crate::hall::{overlap, Hall, BOTH_WAYS, OUTBOX_SHORT, TAKEN};
+use crate::jet::{Jet, ALL_MANIFOLDS, MANIFOLDS};
 use crate::jet_string::JetString;
+use crate::maps::{masks, union};
 use crate::monitor::{Monitor, MOST_HELD, STORE_LENGTH};
 use crate::random::Random;
 use crate::reader::look_and_tell;
-use crate::record::{Record, StringMajor, StringWords};
+use crate::record::{Record, StringMajor, StringWords, ALL_OPEN};
 use crate::script::{call, state, WHOLE_HALL};
-use crate::state::{hall_from, masks_of, HALL_LENGTH};
+use crate::state::{hall_from, masks_of, HALL_LENGTH, STRING_WORDS};
 use crate::world::{
-    drops, masks, name_both_ways, name_one_way, quantities, reserve_a_drop_bit, telling_leaks, temperatures,
-    union,
+    drops, name_both_ways, name_one_way, quantities, reserve_a_path_bit, telling_leaks, temperatures,
 };
 
-/// How often each case was met. Strings, manifolds and jets are counted at taken records whose path
-/// bit is clear, unless said otherwise.
-#[derive(Clone, Debug, Default)]
-pub struct Cases {
-    pub halls: u64,
-    pub with_overlapping_masks: u64,
-    pub with_held_bytes: u64,
-    pub with_a_claim_above_618: u64,
-    pub calls: u64,
-    pub answers_0_to_5: [u64; 6],
-    pub answers_7: u64,
-    pub nothing_settled: u64,
-    pub majors_taken: u64,
-    pub over_a_gap: u64,
-    pub over_a_missed_major: u64,
-    pub strings_with_path_bit: u64,
-    /// A fault was remembered, and the bit is clear.
-    pub strings_recovered: u64,
-    pub strings_with_bits_of_jets_in_no_mask: u64,
-    /// Whatever the path bit.
-    pub strings_with_high_valve_bits: u64,
-    pub strings_with_high_close_bits: u64,
-    pub manifolds_closed: u64,
-    pub manifolds_opened: u64,
-    /// A failed jet that the mask does not name stands in the saved set.
-    pub opened_with_saved_beyond_mask: u64,
-    /// A jet of two manifolds that both move.
-    pub jets_moved_twice: u64,
-    pub failed_off: u64,
-    pub inhibited: u64,
-    pub re_enabled: u64,
-    /// Requests for jets in no mask.
-    pub named_in_vain: u64,
-    pub leaking: u64,
-    pub failed_on: u64,
-    pub close_bits_gained: u64,
-    pub close_bits_lost: u64,
-}
-
-impl Cases {
-    /// One call's answer.
-    fn add(&mut self, answer: u8) {
-        self.calls += 1;
-        match answer {
-            BOTH_WAYS => self.answers_7 += 1,
-            NOTHING_SETTLED => self.nothing_settled += 1,
-            _ => self.answers_0_to_5[usize::from(answer)] += 1,
-        }
-    }
-
-    /// The hall before a record that is taken, the record, and the hall after it.
-    fn add_taken(&mut self, before: &Hall, record: &Record, after: &Hall) {
-        self.majors_taken += u64::from(record.major.is_some());
-        self.over_a_gap += u64::from(after.n > before.n + 1);
-        self.over_a_missed_major += u64::from((after.n - 1) / 25 > before.n / 25);
-        for s in 0..4 {
-            let (before, after) = (&before.strings[s], &after.strings[s]);
-            self.strings_with_high_valve_bits += u64::from((before.valves | before.good_valves) > 0x0F);
-            self.strings_with_high_close_bits += u64::from(before.close > 0x0F);
-            if bit(record.path.into(), s) {
-                self.strings_with_path_bit += 1;
-                continue;
-            }
-            self.strings_recovered += u64::from(before.path_fault);
-            self.strings_with_bits_of_jets_in_no_mask +=
-                u64::from(before.jets.iter().any(has_bits_in_no_mask));
-            self.add_manifolds(before, record.strings[s].valves.into());
-            self.failed_off += count(&after.jets, |jet| jet.off_slots == [true; 3]);
-            if let Some(major) = &record.major {
-                self.add_requests(before, &major.strings[s]);
-                self.leaking += count(&after.jets, |jet| {
-                    jet.is_mapped() && leaks(major.strings[s].temperatures[jet.number])
-                });
-                self.failed_on += count(&after.jets, |jet| jet.recheck);
-                self.close_bits_gained += u64::from((after.close & !before.close).count_ones());
-                self.close_bits_lost += u64::from((before.close & !after.close).count_ones());
-            }
-        }
-    }
-
-    fn add_manifolds(&mut self, before: &JetString, now: u32) {
-        let lost = before.path_fault;
-        let remembered = if lost { before.good_valves } else { before.valves };
-        let moves = |manifold: &usize| bit(remembered ^ now, *manifold);
-        for manifold in (0..4).filter(moves) {
-            if bit(remembered, manifold) {
-                self.manifolds_closed += 1;
-                continue;
-            }
-            self.manifolds_opened += 1;
-            let beyond = |jet: &Jet| {
-                let (failed, saved) =
-                    if lost { (jet.good_failed, jet.good_saved) } else { (jet.failed, jet.saved) };
-                failed && saved[manifold] && !jet.manifolds[manifold]
-            };
-            self.opened_with_saved_beyond_mask += u64::from(before.jets.iter().any(beyond));
-        }
-        let twice = |jet: &Jet| (0..4).filter(moves).filter(|manifold| jet.manifolds[*manifold]).count() > 1;
-        self.jets_moved_twice += count(&before.jets, twice);
-    }
-
-    fn add_requests(&mut self, before: &JetString, major: &StringMajor) {
-        for jet in &before.jets {
-            let place =
-                match (jet.is_mapped(), bit(major.inhibit, jet.number), bit(major.re_enable, jet.number)) {
-                    (_, false, false) => continue,
-                    (false, _, _) => &mut self.named_in_vain,
-                    (true, true, false) => &mut self.inhibited,
-                    (true, false, true) => &mut self.re_enabled,
-                    (true, true, true) => unreachable!("the record would not be taken"),
-                };
-            *place += 1;
-        }
-    }
-}
-
-fn count(jets: &[Jet], test: impl Fn(&Jet) -> bool) -> u64 {
-    jets.iter().filter(|jet| test(jet)).count() as u64
-}
-
-fn has_bits_in_no_mask(jet: &Jet) -> bool {
-    let bits = [
-        &jet.off_slots[..],
-        &jet.on_slots,
-        &jet.saved,
-        &[jet.failed, jet.recheck, jet.inhibited, jet.re_enabled],
-    ];
-    !jet.is_mapped() && bits.concat().contains(&true)
-}
-
 /// The script of a seed: a hall and one to three calls.
-pub fn script(seed: u64, cases: &mut Cases, counted: &mut Counted) -> Vec<u8> {
+pub fn script(seed: u64, cases: &mut ForeignCases, counted: &mut Counted) -> Vec<u8> {
     // Far from the seeds of feeds and scripts.
     let mut random = Random(0x4A11_0000_0000 + seed);
     let hall = hall(&mut random);
     let mut monitor = Monitor { hall: hall_from(&hall), held: 0, store: [0; STORE_LENGTH] };
     cases.halls += 1;
     cases.with_overlapping_masks += u64::from(overlap(&masks_of(&monitor.hall)));
-    counted.begin();
+    counted.begin(&monitor.hall);
 
     let mut piece = next_piece(&monitor.hall, &mut random);
     let (held, store) = held(&mut piece, &mut random, cases);
@@ -197,6 +68,11 @@ pub fn script(seed: u64, cases: &mut Cases, counted: &mut Counted) -> Vec<u8> {
     script
 }
 
+/// Where the words that have a bit for each manifold stand among those of a string.
+const VALVES_PLACE: usize = 1;
+const GOOD_VALVES_PLACE: usize = VALVES_PLACE + MANIFOLDS + 2;
+const CLOSE_PLACE: usize = STRING_WORDS - 1;
+
 /// The words of a string: any, few or many bits, or as others of the same string, or nearly so.
 struct Words(Vec<u32>);
 
@@ -227,11 +103,9 @@ fn hall(random: &mut Random) -> [u8; HALL_LENGTH] {
     bytes.extend(masks.iter().flatten().flat_map(|mask| mask.to_be_bytes()));
     for masks in &masks {
         let mut words = Words(masks.to_vec());
-        for place in 0..21 {
-            let word = match place {
-                1 | 7 | 20 => manifolds_word(random),
-                _ => words.next(random),
-            };
+        for place in 0..STRING_WORDS {
+            let is_of_manifolds = [VALVES_PLACE, GOOD_VALVES_PLACE, CLOSE_PLACE].contains(&place);
+            let word = if is_of_manifolds { manifolds_word(random) } else { words.next(random) };
             bytes.extend(word.to_be_bytes());
         }
         bytes.push(flag(random));
@@ -240,25 +114,26 @@ fn hall(random: &mut Random) -> [u8; HALL_LENGTH] {
         bytes.extend([flag(random), flag(random)]);
         bytes.extend((random.word() as u16).to_be_bytes());
     }
-    bytes.try_into().expect("a hall has 420 bytes")
+    bytes.try_into().expect("a hall has 612 bytes")
 }
 
 /// The masks of a string, two times in three such as no map has.
-fn string_masks(random: &mut Random) -> [u32; 4] {
+fn string_masks(random: &mut Random) -> [u32; MANIFOLDS] {
     let allowed = masks(random)[0];
     let mut words = Words(allowed.to_vec());
     match random.below(3) {
         0 => allowed,
-        1 => [(); 4].map(|_| words.next(random)),
+        1 => [(); MANIFOLDS].map(|_| words.next(random)),
         _ => allowed.map(|mask| mask | random.word() & random.word() & random.word()),
     }
 }
 
 /// Valves or close bits; the bits above the manifolds are often set.
 fn manifolds_word(random: &mut Random) -> u32 {
-    let low = random.below(16) as u32;
-    let high = random.word() & !0x0F;
-    random.pick(&[low, low, low, 0, 0x0F, low | high, low | high, low | 0x10, low | 0x8000_0000])
+    let low = random.word() & ALL_MANIFOLDS;
+    let high = random.word() & !ALL_MANIFOLDS;
+    let next = ALL_MANIFOLDS + 1;
+    random.pick(&[low, low, low, 0, ALL_MANIFOLDS, low | high, low | high, low | next, low | 0x8000_0000])
 }
 
 /// Any byte but 0 says yes.
@@ -267,13 +142,13 @@ fn flag(random: &mut Random) -> u8 {
     random.pick(&[0, 0, 0, 0, 0, 1, 1, 1, 255, any])
 }
 
-/// A record for the hall, now and then with junk before it, with a reserved drop bit, or broken off.
+/// A record for the hall, now and then with junk before it, with a reserved path bit, or broken off.
 fn next_piece(hall: &Hall, random: &mut Random) -> Vec<u8> {
     let length = random.index(30);
     let mut piece = if random.one_in(8) { random.bytes(length) } else { Vec::new() };
     let mut record = record(hall, random);
     if random.one_in(16) {
-        reserve_a_drop_bit(&mut record, random);
+        reserve_a_path_bit(&mut record, random);
     }
     piece.extend(record.bytes());
     if random.one_in(25) {
@@ -283,7 +158,7 @@ fn next_piece(hall: &Hall, random: &mut Random) -> Vec<u8> {
 }
 
 /// A claim and a store. Bytes that are held are taken from the front of the piece.
-fn held(piece: &mut Vec<u8>, random: &mut Random, cases: &mut Cases) -> (u16, [u8; STORE_LENGTH]) {
+fn held(piece: &mut Vec<u8>, random: &mut Random, cases: &mut ForeignCases) -> (u16, [u8; STORE_LENGTH]) {
     let mut store: [u8; STORE_LENGTH] = random.junk(STORE_LENGTH).try_into().expect("619 bytes");
     match random.below(6) {
         0 | 1 => {
@@ -383,13 +258,13 @@ fn known(string: &JetString) -> Words {
 }
 
 fn string_words(string: &JetString, words: &mut Words, random: &mut Random) -> StringWords {
-    let remembered = (string.valves % 16) as u8;
-    let any = random.below(16) as u8;
+    let remembered = string.valves as u8 & ALL_OPEN;
+    let any = random.word() as u8 & ALL_OPEN;
     StringWords {
         commanded: words.next(random),
         pressure: words.next(random),
         driver: words.next(random),
-        valves: random.pick(&[remembered, !remembered & 0x0F, any, any, 0, 0x0F]),
+        valves: random.pick(&[remembered, ALL_OPEN & !remembered, any, any, 0, ALL_OPEN]),
     }
 }
 
@@ -400,7 +275,7 @@ fn string_major(string: &JetString, words: &mut Words, random: &mut Random) -> S
     let leaking = if random.one_in(4) { random.pick(&telling) } else { words.next(random) };
     let temperatures = temperatures(leaking, random);
     let (inhibit, re_enable) = (words.next(random), words.next(random));
-    let set = (string.close % 16) as u8;
+    let set = (string.close & ALL_MANIFOLDS) as u8;
     let asked = drops(random);
     let drops = random.pick(&[0, set, asked, asked]);
     let mut major = StringMajor { temperatures, inhibit, re_enable, drops };

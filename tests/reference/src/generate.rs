@@ -3,11 +3,10 @@
 
 use crate::feed::{masks_bytes, MASKS_LENGTH};
 use crate::hall::Masks;
+use crate::maps::{masks, one_jet_of_each};
 use crate::random::Random;
 use crate::record::{sum, Record, MAJOR, MAJOR_LENGTH, MARK, MINOR, MINOR_LENGTH};
-use crate::world::{
-    drops, masks, name_both_ways, one_jet_of_each, reserve_a_drop_bit, telling_leaks, Chances, World,
-};
+use crate::world::{drops, name_both_ways, reserve_a_path_bit, telling_leaks, Chances, World};
 
 #[derive(Clone, Debug)]
 pub struct Night {
@@ -31,7 +30,7 @@ pub fn input(seed: u64, size: usize) -> (Vec<u8>, u64) {
     let begins_late = random.one_in(3);
     let begins_with_leaks = random.one_in(2);
     let begins_both_ways = random.one_in(4);
-    let begins_with_drops = random.one_in(2);
+    let begins_with_drops = !random.one_in(3);
     let mut night = Night::after(0, &masks, random);
     if begins_with_leaks {
         bytes.extend(night.leaks());
@@ -66,8 +65,7 @@ impl Night {
         let strings = self.world.mapped.map(|mapped| telling_leaks(mapped, &mut self.random));
         for turn in 0..4 {
             self.world.leak(strings.map(|leaks| leaks[turn]));
-            feed.extend(self.good(self.cycle + 25));
-            feed.extend(self.good(self.cycle + 25));
+            feed.extend([self.good(self.cycle + 25), self.good(self.cycle + 25)].concat());
         }
         self.world.leak([0; 4]);
         feed
@@ -76,13 +74,11 @@ impl Night {
     /// Majors of a hall in which jets of one string leak. The third, which would close manifolds, names jets
     /// both ways: they close when its cycle is sent again, or by three majors more where it is missed.
     fn third_leak_both_ways(&mut self) -> Vec<u8> {
-        let mut feed = Vec::new();
         let leaking = self.random.index(4);
         let mut strings = [0; 4];
         strings[leaking] = telling_leaks(self.world.mapped[leaking], &mut self.random)[3];
         self.world.leak(strings);
-        feed.extend(self.good(self.cycle + 25));
-        feed.extend(self.good(self.cycle + 25));
+        let mut feed = [self.good(self.cycle + 25), self.good(self.cycle + 25)].concat();
         feed.extend(self.both_ways(self.cycle + 25).iter().flat_map(Record::bytes));
         for _ in 0..3 {
             feed.extend(self.good(self.cycle + 25 - self.cycle % 25));
@@ -96,14 +92,14 @@ impl Night {
     fn drops(&mut self, masks: &Masks) -> Vec<u8> {
         let mut feed = Vec::new();
         let jets = masks.map(one_jet_of_each);
-        for turn in 0..16 {
+        for turn in 0..24 {
             let most = |random: &mut Random| if turn < 3 { u32::MAX } else { random.word() | random.word() };
             self.world.leak(jets.map(|jets| jets & most(&mut self.random)));
             let missed = if turn < 3 { 0 } else { self.random.pick(&[0, 0, 0, 0, 0, 0, 0, 1]) };
             let cycle = self.cycle + 25 * (1 + missed) - self.cycle % 25;
             let mut record = self.record(cycle);
             for (s, string) in record.major.iter_mut().flat_map(|major| &mut major.strings).enumerate() {
-                string.drops = if turn < 3 || self.random.one_in(2) { 0 } else { drops(&mut self.random) };
+                string.drops = if turn < 3 || self.random.one_in(3) { 0 } else { drops(&mut self.random) };
                 record.path |= u8::from(turn > 2 && self.random.one_in(4)) << s;
             }
             feed.extend(self.before_drops(&record).iter().flat_map(Record::bytes));
@@ -114,11 +110,11 @@ impl Night {
         feed
     }
 
-    /// The record with a reserved drop bit, or with jets named both ways, or mostly none.
+    /// The record with a reserved path bit, or with jets named both ways, or mostly none.
     fn before_drops(&mut self, record: &Record) -> Vec<Record> {
         let mut spoilt = record.clone();
         match self.random.below(6) {
-            0 | 1 => reserve_a_drop_bit(&mut spoilt, &mut self.random),
+            0 | 1 => reserve_a_path_bit(&mut spoilt, &mut self.random),
             2 => name_both_ways(&mut spoilt, self.world.mapped, &mut self.random),
             _ => return Vec::new(),
         }
@@ -214,8 +210,7 @@ impl Night {
             records.push(refused);
         }
         // After the longest jump the next cycle would be stale.
-        let jumped = cycle - self.cycle == 32_767;
-        if jumped || self.random.one_in(self.chances.sent_again) {
+        if cycle - self.cycle == 32_767 || self.random.one_in(self.chances.sent_again) {
             self.good_is_sent(cycle, good.bytes());
             records.push(good);
         } else {
@@ -253,7 +248,7 @@ impl Night {
         let mut bytes = record.bytes();
         let place = self.random.index(bytes.len());
         let length = self.random.pick(&[1, 3, 60, 700]);
-        match self.random.below(9) {
+        match self.random.below(10) {
             0 => *bytes.last_mut().expect("a sum") ^= 1 << self.random.below(8),
             1 => bytes[place] ^= 1 << self.random.below(8),
             2 => bytes.truncate(place),
@@ -272,13 +267,10 @@ impl Night {
 
     /// A reserved bit or a quantity above 1,000; the sum will be right.
     fn forbid(&mut self, record: &mut Record) {
-        let reserved = 1 << (4 + self.random.below(4));
         let over = self.random.pick(&[1_001, 1_024, 0x8000, 0xFFFF]);
-        match (&mut record.major, self.random.below(4)) {
-            (Some(_), 3) => reserve_a_drop_bit(record, &mut self.random),
+        match (&mut record.major, self.random.below(2)) {
             (Some(major), 0) => major.quantities[self.random.index(3)][self.random.index(2)] = over,
-            (_, 1) => record.path |= reserved,
-            _ => record.strings[self.random.index(4)].valves |= reserved,
+            _ => reserve_a_path_bit(record, &mut self.random),
         }
     }
 

@@ -1,5 +1,6 @@
 //! The four strings, the cycle count and the modules' balance; which answer a record gets.
 
+use crate::jet::MANIFOLDS;
 use crate::jet_string::{Gap, JetString};
 use crate::record::{Major, Record};
 
@@ -14,8 +15,10 @@ pub const BOTH_WAYS: u8 = 7;
 /// No answer of the table: a call that settles nothing says so.
 pub const NOTHING_SETTLED: u8 = 255;
 
-/// Four strings of four masks.
-pub type Masks = [[u32; 4]; 4];
+/// Four strings of a mask for each manifold.
+pub type Masks = [[u32; MANIFOLDS]; 4];
+/// The map over which a monitor goes on whose own is refused.
+pub const EMPTY_MAP: Masks = [[0; MANIFOLDS]; 4];
 
 #[derive(Clone, Debug, PartialEq, Eq)]
 pub struct Hall {
@@ -33,7 +36,7 @@ pub struct Module {
 
 /// Two masks of one string share a bit.
 pub fn overlap(masks: &Masks) -> bool {
-    masks.iter().any(|string| (0..4).any(|i| (0..i).any(|j| string[i] & string[j] != 0)))
+    masks.iter().any(|string| (0..MANIFOLDS).any(|i| (0..i).any(|j| string[i] & string[j] != 0)))
 }
 
 impl Hall {

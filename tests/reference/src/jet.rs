@@ -1,11 +1,16 @@
 //! What is remembered of one jet.
 
+/// How many manifolds a string has (document 02, order 7). Bytes of the feed and of reports have a bit for each.
+pub const MANIFOLDS: usize = 8;
+/// The word in which the bits of all manifolds are set.
+pub const ALL_MANIFOLDS: u32 = (1 << MANIFOLDS) - 1;
+
 /// A jet of a string. One that no mask names is ignored, but a state handed in may have anything of it.
 #[derive(Clone, Debug, Default, PartialEq, Eq)]
 pub struct Jet {
     pub number: usize,
     /// The manifolds whose masks name it: one at most, unless a state is handed in with masks that overlap.
-    pub manifolds: [bool; 4],
+    pub manifolds: [bool; MANIFOLDS],
 
     pub failed: bool,
     /// "C and not P" in the last three cycles, newest first.
@@ -16,10 +21,10 @@ pub struct Jet {
     pub inhibited: bool,
     pub re_enabled: bool,
     /// Stands in the saved set of each manifold. In a state handed in that may be any manifold's.
-    pub saved: [bool; 4],
+    pub saved: [bool; MANIFOLDS],
 
     pub good_failed: bool,
-    pub good_saved: [bool; 4],
+    pub good_saved: [bool; MANIFOLDS],
 }
 
 impl Jet {

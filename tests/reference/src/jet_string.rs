@@ -1,6 +1,6 @@
 //! One cycle of a string, step by step.
 
-use crate::jet::{bit, leaks, Jet};
+use crate::jet::{bit, leaks, Jet, ALL_MANIFOLDS, MANIFOLDS};
 use crate::record::{StringMajor, StringWords};
 
 /// What was missed between the old n and the new.
@@ -23,10 +23,10 @@ pub struct JetString {
 }
 
 impl JetString {
-    pub fn fresh(masks: [u32; 4]) -> JetString {
+    pub fn fresh(masks: [u32; MANIFOLDS]) -> JetString {
         let jet = |number| Jet { number, manifolds: masks.map(|mask| bit(mask, number)), ..Jet::default() };
         let jets = (0..32).map(jet).collect();
-        JetString { jets, path_fault: false, valves: 0x0F, good_valves: 0x0F, close: 0 }
+        JetString { jets, path_fault: false, valves: ALL_MANIFOLDS, good_valves: ALL_MANIFOLDS, close: 0 }
     }
 
     /// The word in which the bits of these jets are set.
@@ -114,7 +114,7 @@ impl JetString {
     /// Step 4, lowest first: where masks overlap, a manifold sees what the lower ones left.
     fn manifolds(&mut self, words: &StringWords) {
         let now = u32::from(words.valves);
-        for manifold in 0..4 {
+        for manifold in 0..MANIFOLDS {
             if bit(self.valves, manifold) && !bit(now, manifold) {
                 self.closes(manifold);
             }
@@ -168,14 +168,14 @@ impl JetString {
     /// Step 5, close bits (document 02, order 6): "bit i asks to drop manifold i's close bit". Nothing else changes,
     /// and step 6 may set the bit again.
     fn drops(&mut self, major: &StringMajor) {
-        for manifold in (0..4).filter(|manifold| bit(major.drops.into(), *manifold)) {
+        for manifold in (0..MANIFOLDS).filter(|manifold| bit(major.drops.into(), *manifold)) {
             self.close &= !(1 << manifold);
         }
     }
 
     /// Step 6. The close bit stays until it is dropped.
     fn recheck(&mut self, bad: &[bool]) {
-        for manifold in 0..4 {
+        for manifold in 0..MANIFOLDS {
             for (jet, bad) in self.jets.iter().zip(bad) {
                 if jet.manifolds[manifold] && jet.recheck && *bad && !jet.re_enabled {
                     self.close |= 1 << manifold;

@@ -3,7 +3,7 @@
 
 use crate::feed::records;
 use crate::hall::{Hall, TAKEN};
-use crate::jet::{bit, leaks, Jet};
+use crate::jet::{bit, leaks, Jet, MANIFOLDS};
 use crate::jet_string::JetString;
 use crate::record::{Record, StringMajor};
 use crate::temperature_cases::{MistakenHalls, TemperatureCases};
@@ -40,7 +40,7 @@ struct Shows {
 
 type Named = (&'static str, fn(&Leaky) -> bool);
 
-const STRINGS: &str = "strings with no jet mapped, one, some, eleven as 3, 3, 3 and 2, all";
+const STRINGS: &str = "strings with no jet mapped, one, some, eleven on several manifolds, all";
 
 /// "Some" are 2 to 31.
 const CASES: [Named; 9] = [
@@ -139,15 +139,11 @@ impl LeakCases {
     }
 
     fn add_string(&mut self, string: &JetString, jets: &Leaky) {
-        let sizes = [0, 1, 2, 3].map(|manifold| string.word(|jet| jet.manifolds[manifold]).count_ones());
+        let has_jets = |manifold: &usize| string.jets.iter().any(|jet| jet.manifolds[*manifold]);
+        let manifolds = (0..MANIFOLDS).filter(has_jets).count();
         let number = jets.mapped.count_ones();
-        let is_met = [
-            number == 0,
-            number == 1,
-            jets.some_mapped(),
-            number == 11 && sizes == [3, 3, 3, 2],
-            jets.all_mapped(),
-        ];
+        let is_met =
+            [number == 0, number == 1, jets.some_mapped(), number == 11 && manifolds > 1, jets.all_mapped()];
         for (met, is_met) in self.strings.iter_mut().zip(is_met) {
             *met += u64::from(is_met);
         }

@@ -1,6 +1,6 @@
 //! The monitor as its callers see it: a start over a map, then call after call.
 
-use crate::hall::{overlap, Hall, Masks, MAP, NOTHING_SETTLED, OUTBOX_SHORT, TAKEN};
+use crate::hall::{overlap, Hall, Masks, EMPTY_MAP, MAP, NOTHING_SETTLED, OUTBOX_SHORT, TAKEN};
 use crate::reader::look;
 use crate::report::{Report, REPORT_LENGTH};
 
@@ -19,7 +19,7 @@ impl Monitor {
     /// Answer 0 and a fresh monitor, or 6 and a fresh one over the empty map.
     pub fn start(masks: Masks) -> (u8, Monitor) {
         let refused = overlap(&masks);
-        let hall = Hall::fresh(if refused { &[[0; 4]; 4] } else { &masks });
+        let hall = Hall::fresh(if refused { &EMPTY_MAP } else { &masks });
         (if refused { MAP } else { TAKEN }, Monitor { hall, held: 0, store: [0; STORE_LENGTH] })
     }
 

@@ -31,6 +31,15 @@ impl Random {
         choices[self.index(choices.len())]
     }
 
+    /// 0 up to, not including, `end`, in any order.
+    pub fn shuffled(&mut self, end: usize) -> Vec<usize> {
+        let mut numbers: Vec<usize> = (0..end).collect();
+        for place in 1..end {
+            numbers.swap(place, self.index(place + 1));
+        }
+        numbers
+    }
+
     /// Sets a clear bit once in `set` times, clears a set one once in `clear`.
     pub fn flip(&mut self, bits: &mut u8, number: usize, set: u64, clear: u64) {
         let is_set = (*bits >> number) % 2 == 1;

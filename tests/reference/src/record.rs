@@ -1,10 +1,14 @@
 //! Records of the feed: what they say, and their bytes. Numbers have the high byte first.
 
+use crate::jet::ALL_MANIFOLDS;
+
 pub const MARK: u8 = 0x52;
 pub const MINOR: u8 = 0x4D;
 pub const MAJOR: u8 = 0x4A;
 pub const MINOR_LENGTH: usize = 59;
 pub const MAJOR_LENGTH: usize = 619;
+/// A valve byte that says of all manifolds that they are open.
+pub const ALL_OPEN: u8 = ALL_MANIFOLDS as u8;
 
 #[derive(Clone, Debug, PartialEq, Eq)]
 pub struct Record {
@@ -36,14 +40,14 @@ pub struct StringMajor {
     pub temperatures: [[u16; 2]; 32],
     pub inhibit: u32,
     pub re_enable: u32,
-    /// Bit i: the close bit of manifold i is to be dropped. Bits 4 to 7 are reserved.
+    /// Bit i: the close bit of manifold i is to be dropped.
     pub drops: u8,
 }
 
 impl Record {
     /// A quiet record of the right kind for cycle `n`: valves open, temperature words 64.
     pub fn quiet(n: u64) -> Record {
-        let string = StringWords { commanded: 0, pressure: 0, driver: 0, valves: 0x0F };
+        let string = StringWords { commanded: 0, pressure: 0, driver: 0, valves: ALL_OPEN };
         let string_major = StringMajor { temperatures: [[64; 2]; 32], inhibit: 0, re_enable: 0, drops: 0 };
         let major = Major { strings: [string_major; 4], quantities: [[0; 2]; 3] };
         let major = n.is_multiple_of(25).then_some(major);
@@ -127,12 +131,9 @@ impl Record {
         (right_sum && !record.has_reserved_bit() && !record.has_large_quantity()).then_some(record)
     }
 
-    /// One of bits 4 to 7 of the path byte, of a valve byte or of a drop byte is set.
+    /// One of bits 4 to 7 of the path byte is set.
     pub fn has_reserved_bit(&self) -> bool {
-        let mut drops = self.major.iter().flat_map(|major| &major.strings).map(|string| string.drops);
         self.path >= 16
-            || self.strings.iter().any(|string| string.valves >= 16)
-            || drops.any(|drops| drops >= 16)
     }
 
     /// A quantity is above 1,000, which only a major record can have.

@@ -1,6 +1,7 @@
 //! The cases that requests have to meet, and how often they did.
 
 use crate::cases::{self, only};
+use crate::jet::{ALL_MANIFOLDS, MANIFOLDS};
 use crate::record::{StringMajor, MINOR_LENGTH};
 use crate::request::{Request, LONGEST_OUTBOX};
 use crate::writer::WRITTEN;
@@ -13,11 +14,14 @@ impl Default for Cases {
     }
 }
 
+/// Each manifold of each string.
+const EACH: usize = 4 * MANIFOLDS;
+
 /// "Alone" is without any other fault. Minors stand before majors, but where only majors count.
-const CASES: [cases::Named<Request>; 15] = [
+const CASES: [cases::Named<Request>; 16] = [
     ("answers 0, 1, 3; 0, 1, 2, 3", 7, answer),
     ("faults together: reserved bit +1, short outbox +2; quantity +2, short outbox +4", 12, faults),
-    ("each reserved bit alone, path, valves and drops of each string", 20 + 36, reserved_bit_alone),
+    ("each reserved bit alone, bits 4 to 7 of the path byte", 4 + 4, reserved_bit_alone),
     ("several reserved bits", 2, several_reserved_bits),
     ("each quantity 1,000, written", 6, full_quantities),
     ("each quantity 1,001 alone", 6, |request| large_quantity_alone(request, 1_001)),
@@ -28,7 +32,8 @@ const CASES: [cases::Named<Request>; 15] = [
     ("written: wire cycle a multiple of 25 or not", 4, wire_cycle),
     ("written: temperature words of 0 to 63, to 32,767, to 65,535", 3, temperatures),
     ("written: jets named neither way, one way, both ways", 3, named),
-    ("written: a string that drops no manifold, some, all, and the bit of each alone", 3 + 16, drops),
+    ("written: valves of a string, none open, some, all, and each alone", 3 + EACH, valves),
+    ("written: a string that drops no manifold, some, all, and the bit of each alone", 3 + EACH, drops),
     ("written: a major's bytes come to 65,535 at most, to more", 2, size_of_sum),
 ];
 
@@ -40,13 +45,9 @@ fn is_written(request: &Request) -> bool {
     request.said()[0] == WRITTEN
 }
 
-/// Bits 4 to 7 of the path byte, then of each valve byte, then of each drop byte, numbered on.
+/// Bits 4 to 7 of the path byte, numbered from 0.
 fn reserved_bits(request: &Request) -> Vec<usize> {
-    let valves = request.record.strings.map(|string| string.valves);
-    let mut bytes = [&[request.record.path], &valves[..]].concat();
-    bytes.extend(request.record.major.iter().flat_map(|major| major.strings.map(|string| string.drops)));
-    let is_set = |number: &usize| (bytes[number / 4] >> (4 + number % 4)) % 2 == 1;
-    (0..4 * bytes.len()).filter(is_set).collect()
+    (0..4).filter(|number| (request.record.path >> (4 + number)) % 2 == 1).collect()
 }
 
 /// What a major record says of the strings, if it is written.
@@ -90,7 +91,7 @@ fn faults(request: &Request) -> Vec<usize> {
 fn reserved_bit_alone(request: &Request) -> Vec<usize> {
     match reserved_bits(request)[..] {
         [bit] if large_quantities(request).is_empty() && !is_short(request) => {
-            vec![20 * usize::from(request.is_major()) + bit]
+            vec![4 * usize::from(request.is_major()) + bit]
         }
         _ => vec![],
     }
@@ -162,15 +163,27 @@ fn named(request: &Request) -> Vec<usize> {
     [only(neither, 0), only(one, 1), only(both, 2)].concat()
 }
 
-/// The single bits string by string.
+fn valves(request: &Request) -> Vec<usize> {
+    let is_written = is_written(request);
+    let strings = request.record.strings.into_iter().filter(|_| is_written);
+    manifolds(strings.map(|string| string.valves))
+}
+
 fn drops(request: &Request) -> Vec<usize> {
-    let drops = written_strings(request).into_iter().map(|string| string.drops).enumerate();
-    let variants = |(s, drops): (usize, u8)| match drops {
+    manifolds(written_strings(request).into_iter().map(|string| string.drops))
+}
+
+/// Whether the byte of a string has the bits of no manifold, of some or of all; the single bits string by string.
+fn manifolds(bytes: impl Iterator<Item = u8>) -> Vec<usize> {
+    let variants = |(s, byte): (usize, u8)| match u32::from(byte) {
         0 => vec![0],
-        0x0F => vec![2],
-        _ => [vec![1], only(drops.is_power_of_two(), 3 + 4 * s + drops.trailing_zeros() as usize)].concat(),
+        ALL_MANIFOLDS => vec![2],
+        _ => {
+            let single = 3 + MANIFOLDS * s + byte.trailing_zeros() as usize;
+            [vec![1], only(byte.is_power_of_two(), single)].concat()
+        }
     };
-    drops.flat_map(variants).collect()
+    bytes.enumerate().flat_map(variants).collect()
 }
 
 fn size_of_sum(request: &Request) -> Vec<usize> {

@@ -1,8 +1,10 @@
 //! Seeded requests that meet every case of the writer, and inputs in which the program must stop.
 
+use crate::jet::MANIFOLDS;
 use crate::random::Random;
 use crate::record::{Record, MINOR_LENGTH};
 use crate::request::{Request, LONGEST_OUTBOX, MAJOR_KIND, MINOR_KIND};
+use crate::world::reserve_a_path_bit;
 
 /// Faults of a request, drawn so that single ones are common and all go together.
 const NONE: u8 = 0;
@@ -66,11 +68,10 @@ fn allowed(is_major: bool, random: &mut Random) -> Record {
     }
     let mut record = Record::of_values(is_major, &values);
     record.path %= 16;
-    for string in &mut record.strings {
-        string.valves %= 16;
-    }
-    for string in record.major.iter_mut().flat_map(|major| &mut major.strings) {
-        string.drops %= 16;
+    let drops = record.major.iter_mut().flat_map(|major| &mut major.strings).map(|string| &mut string.drops);
+    for byte in record.strings.iter_mut().map(|string| &mut string.valves).chain(drops) {
+        let one = 1 << random.index(MANIFOLDS);
+        *byte = random.pick(&[one, *byte, *byte, *byte]);
     }
     for quantity in record.major.iter_mut().flat_map(|major| &mut major.quantities).flatten() {
         let any = random.below(1_001) as u16;
@@ -82,13 +83,7 @@ fn allowed(is_major: bool, random: &mut Random) -> Record {
 /// Mostly one.
 fn set_reserved_bits(record: &mut Record, random: &mut Random) {
     for _ in 0..random.pick(&[1, 1, 1, 2, 20]) {
-        let bit = 1 << (4 + random.below(4));
-        let s = random.index(4);
-        match (&mut record.major, random.below(9)) {
-            (_, 0) => record.path |= bit,
-            (Some(major), 1..=4) => major.strings[s].drops |= bit,
-            _ => record.strings[s].valves |= bit,
-        }
+        reserve_a_path_bit(record, random);
     }
 }
 

@@ -1,22 +1,23 @@
 //! Scripts for a program that makes single calls: any state handed in, then pieces and outboxes.
 //!
-//! A script has its kind (1), a hall (420, see `state`), the claimed count (2), the store (619),
+//! A script has its kind (1), a hall (612, see `state`), the claimed count (2), the store (619),
 //! the number of calls (2), then for each call the piece's length (2, at most 4,096), the piece,
 //! the outbox's length (1) and its contents. By kind 0 the calls begin with what the start over the
 //! hall's masks gives, but for the hall's n; by any other the whole hall is handed in as it stands.
 //! An input is any number of scripts, one after the other. The program says for each the start's
 //! answer to the hall's masks (1), whatever the kind, then for each call: answer (1), bytes used
-//! (2), the outbox, the hall (420), the count (2) and the whole store (619), the places behind the
+//! (2), the outbox, the hall (612), the count (2) and the whole store (619), the places behind the
 //! held bytes included. Numbers have the high byte first. The program stops silently at the end of
 //! its input, at a script that is incomplete, or at a piece that is longer than 4,096.
 
-use crate::feed::masks_bytes;
+use crate::feed::{masks_bytes, MASKS_LENGTH};
 use crate::generate::Night;
+use crate::hall::{Hall, Masks};
+use crate::maps::{masks, refused_masks};
 use crate::monitor::{Monitor, MOST_HELD, STORE_LENGTH};
 use crate::random::Random;
 use crate::record::{MAJOR, MARK};
 use crate::state::{hall_bytes, hall_from, masks_of, HALL_LENGTH};
-use crate::world::{masks, refused_masks};
 
 /// The kinds of script.
 pub const FROM_START: u8 = 0;
@@ -59,7 +60,7 @@ fn next_header<'a>(rest: &mut &'a [u8]) -> Option<(&'a [u8; STATE_LENGTH], u16)>
 /// The start's answer, and the monitor that the calls begin with.
 fn started(state: &[u8; STATE_LENGTH]) -> (u8, Monitor) {
     let (kind, rest) = state.split_first().expect("1 byte");
-    let (hall, rest) = rest.split_first_chunk().expect("420 bytes");
+    let (hall, rest) = rest.split_first_chunk().expect("612 bytes");
     let (held, store) = rest.split_first_chunk().expect("2 bytes");
     let held = u16::from_be_bytes(*held);
     let store = store.try_into().expect("619 bytes");
@@ -102,6 +103,15 @@ pub fn input(seed: u64) -> Vec<u8> {
     input
 }
 
+/// Starts alone, over these maps.
+pub fn starts(maps: &[Masks]) -> Vec<u8> {
+    let start = |masks: &Masks| {
+        let hall = hall_bytes(&Hall::fresh(masks));
+        [state(FROM_START, &hall, 0, &[0; STORE_LENGTH]), vec![0; 2]].concat()
+    };
+    maps.iter().flat_map(start).collect()
+}
+
 /// A script whose second piece is longer than allowed, with more than it wants behind it.
 fn too_long(random: &mut Random) -> Vec<u8> {
     let mut script = vec![0; STATE_LENGTH];
@@ -131,7 +141,7 @@ fn script(random: &mut Random) -> Vec<u8> {
     // Nothing else of the hall is read.
     let mut hall = random.bytes(HALL_LENGTH);
     hall[..4].copy_from_slice(&n.to_be_bytes());
-    hall[4..68].copy_from_slice(&masks_bytes(&masks));
+    hall[4..4 + MASKS_LENGTH].copy_from_slice(&masks_bytes(&masks));
     let mut script = state(FROM_START, &hall, held, &store);
     let (_, mut monitor) = started(script[..].try_into().expect("a state"));
     let calls = 20 + random.below(200) as u16;

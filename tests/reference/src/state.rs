@@ -1,7 +1,7 @@
-//! A whole hall in 420 bytes, as scripts hand it in and get it back. Numbers have the high byte first.
+//! A whole hall in 612 bytes, as scripts hand it in and get it back. Numbers have the high byte first.
 //!
-//! n (4); for each string its masks (4 each); for each string the fail word, the valves and four
-//! saved sets (4 each), the same of the good copy, off slots (newest, older, oldest), on slots
+//! n (4); for each string its masks (4 each); for each string the fail word, the valves and each
+//! manifold's saved set (4 each), the same of the good copy, off slots (newest, older, oldest), on slots
 //! (newest, older), recheck word, inhibits, re-enables and close word (4 each), and whether a path
 //! fault is remembered (1); for each module whether it is out of balance (1), whether the oxidizer
 //! is the lesser (1), and the lesser quantity (2). Yes is written as 1 and no as 0; any byte but 0
@@ -9,10 +9,13 @@
 
 use crate::feed::{masks_from, MASKS_LENGTH};
 use crate::hall::{Hall, Masks};
-use crate::jet::{bit, Jet};
+use crate::jet::{bit, Jet, MANIFOLDS};
 use crate::jet_string::JetString;
+use std::array;
 
-pub const HALL_LENGTH: usize = 4 + MASKS_LENGTH + 4 * (21 * 4 + 1) + 3 * 4;
+/// Thirteen words of a string, and two for each of its manifolds.
+pub const STRING_WORDS: usize = 13 + 2 * MANIFOLDS;
+pub const HALL_LENGTH: usize = 4 + MASKS_LENGTH + 4 * (4 * STRING_WORDS + 1) + 3 * 4;
 
 pub fn hall_from(bytes: &[u8; HALL_LENGTH]) -> Hall {
     let mut left = &bytes[..];
@@ -34,12 +37,12 @@ pub fn hall_from(bytes: &[u8; HALL_LENGTH]) -> Hall {
 fn read_string(string: &mut JetString, left: &mut &[u8]) {
     read_jets(string, left, |jet| &mut jet.failed);
     string.valves = next_word(left);
-    for manifold in 0..4 {
+    for manifold in 0..MANIFOLDS {
         read_jets(string, left, |jet| &mut jet.saved[manifold]);
     }
     read_jets(string, left, |jet| &mut jet.good_failed);
     string.good_valves = next_word(left);
-    for manifold in 0..4 {
+    for manifold in 0..MANIFOLDS {
         read_jets(string, left, |jet| &mut jet.good_saved[manifold]);
     }
     for slot in 0..3 {
@@ -94,18 +97,19 @@ pub fn hall_bytes(hall: &Hall) -> [u8; HALL_LENGTH] {
         bytes.push(module.oxidizer_is_lesser.into());
         bytes.extend(module.lesser.to_be_bytes());
     }
-    bytes.try_into().expect("a hall has 420 bytes")
+    bytes.try_into().expect("a hall has 612 bytes")
 }
 
 pub fn masks_of(hall: &Hall) -> Masks {
-    [0, 1, 2, 3].map(|s| [0, 1, 2, 3].map(|manifold| hall.strings[s].word(|jet| jet.manifolds[manifold])))
+    let mask = |s: usize, manifold: usize| hall.strings[s].word(|jet| jet.manifolds[manifold]);
+    [0, 1, 2, 3].map(|s| array::from_fn(|manifold| mask(s, manifold)))
 }
 
 fn string_words(string: &JetString) -> Vec<u32> {
     let mut words = vec![string.word(|jet| jet.failed), string.valves];
-    words.extend((0..4).map(|manifold| string.word(|jet| jet.saved[manifold])));
+    words.extend((0..MANIFOLDS).map(|manifold| string.word(|jet| jet.saved[manifold])));
     words.extend([string.word(|jet| jet.good_failed), string.good_valves]);
-    words.extend((0..4).map(|manifold| string.word(|jet| jet.good_saved[manifold])));
+    words.extend((0..MANIFOLDS).map(|manifold| string.word(|jet| jet.good_saved[manifold])));
     words.extend((0..3).map(|slot| string.word(|jet| jet.off_slots[slot])));
     words.extend((0..2).map(|slot| string.word(|jet| jet.on_slots[slot])));
     words.push(string.word(|jet| jet.recheck));

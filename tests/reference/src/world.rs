@@ -1,19 +1,17 @@
 //! The hall that the generated records tell of: jets that fail, valves that move, paths that
-//! break, requests, temperatures and quantities. And maps for it.
+//! break, requests, temperatures and quantities.
 
 use crate::hall::Masks;
-use crate::jet::bit;
+use crate::jet::{bit, ALL_MANIFOLDS, MANIFOLDS};
+use crate::maps::union;
 use crate::random::Random;
-use crate::record::{Major, Record, StringMajor};
+use crate::record::{Major, Record, StringMajor, ALL_OPEN};
 
 /// Which words of a jet leak, fuel then oxidizer.
 const NEITHER: [bool; 2] = [false, false];
 const FUEL: [bool; 2] = [true, false];
 const OXIDIZER: [bool; 2] = [false, true];
 const BOTH: [bool; 2] = [true, true];
-
-/// How many styles the masks of a string are drawn in.
-const STYLES: u64 = 9;
 
 /// What a night is like, in the hall and on the line. Each number n means "once in n", 0 never.
 #[derive(Clone, Debug)]
@@ -81,7 +79,7 @@ impl World {
     pub fn pass(&mut self, chances: &Chances, random: &mut Random) {
         for (s, string) in self.strings.iter_mut().enumerate() {
             random.flip(&mut self.path, s, chances.paths, 15);
-            for manifold in 0..4 {
+            for manifold in 0..MANIFOLDS {
                 random.flip(&mut string.closed, manifold, chances.valves, 30);
             }
             if random.one_in(4) {
@@ -101,7 +99,7 @@ impl World {
             words.commanded = string.commanded;
             words.pressure = string.commanded & !string.failing_off | string.stuck_on;
             words.driver = string.commanded | string.stuck_on;
-            words.valves = 0x0F & !string.closed;
+            words.valves = ALL_OPEN & !string.closed;
             if random.one_in(chances.noise) {
                 words.commanded = random.word();
                 words.pressure = random.word();
@@ -158,16 +156,15 @@ impl StringWorld {
 
 /// Asks for one manifold's close bit to be dropped, or for those of any, often of several or all.
 pub fn drops(random: &mut Random) -> u8 {
-    let one = 1 << random.below(4);
-    let any = random.below(16) as u8;
-    random.pick(&[one, any, any, 0x0F])
+    let all = ALL_MANIFOLDS as u8;
+    let one = 1 << random.index(MANIFOLDS);
+    let any = all & random.word() as u8;
+    random.pick(&[one, any, any, all])
 }
 
-/// One of bits 4 to 7 of a drop byte, by which a major record is lost though its sum is right.
-pub fn reserve_a_drop_bit(record: &mut Record, random: &mut Random) {
-    if let Some(major) = &mut record.major {
-        major.strings[random.index(4)].drops |= 0x10 << random.below(4);
-    }
+/// One of bits 4 to 7 of the path byte, by which a record is lost though its sum is right.
+pub fn reserve_a_path_bit(record: &mut Record, random: &mut Random) {
+    record.path |= 0x10 << random.below(4);
 }
 
 /// Leaves each of these jets one of its two requests, where it has both.
@@ -210,13 +207,8 @@ pub fn telling_leaks(mapped: u32, random: &mut Random) -> [u32; 4] {
     [others, *lowest, *highest, few]
 }
 
-/// The lowest jet of each manifold that has any.
-pub fn one_jet_of_each(masks: [u32; 4]) -> u32 {
-    masks.iter().filter_map(|mask| jets(*mask).first().copied()).sum()
-}
-
 /// The jets of a word, each as its bit, lowest first.
-fn jets(word: u32) -> Vec<u32> {
+pub fn jets(word: u32) -> Vec<u32> {
     (0..32).map(|jet| 1 << jet).filter(|jet| word & jet != 0).collect()
 }
 
@@ -256,58 +248,4 @@ pub fn quantities(random: &mut Random) -> [u16; 2] {
     let any = random.below(1_001) as u16;
     let near = (one + random.pick(&[0, 1, 15, 16, 17, 18])).min(1_000);
     random.pick(&[[one, any], [one, near], [near, one]])
-}
-
-/// The jets that the masks name.
-pub fn union(masks: [u32; 4]) -> u32 {
-    masks.iter().fold(0, |all, mask| all | mask)
-}
-
-/// Maps that are not refused, their strings alike or each in its own style.
-pub fn masks(random: &mut Random) -> Masks {
-    let alike = random.below(STYLES);
-    let mixed = random.one_in(8);
-    [(); 4].map(|_| {
-        let style = if mixed { random.below(STYLES) } else { alike };
-        string_masks(style, random)
-    })
-}
-
-/// Empty, full, even, one jet, eleven jets, or random with disjoint masks.
-fn string_masks(style: u64, random: &mut Random) -> [u32; 4] {
-    let mut masks = [0; 4];
-    match style {
-        0 => {}
-        1 => masks[0] = 0xFFFF_FFFF,
-        2 => masks = [0x0000_00FF, 0x0000_FF00, 0x00FF_0000, 0xFF00_0000],
-        3 => masks[3] = random.jet(),
-        4 => {
-            for (manifold, jets) in [3, 3, 3, 2].into_iter().enumerate() {
-                while masks[manifold].count_ones() < jets {
-                    masks[manifold] |= random.jet() & !union(masks);
-                }
-            }
-        }
-        _ => {
-            // Each jet goes to one of the manifolds, or to none.
-            let places = random.pick(&[4, 5, 9]);
-            for jet in 0..32 {
-                if let Some(mask) = masks.get_mut(random.index(places)) {
-                    *mask |= 1 << jet;
-                }
-            }
-        }
-    }
-    masks
-}
-
-/// Maps in which a bit stands in two masks of a string.
-pub fn refused_masks(random: &mut Random) -> Masks {
-    let mut masks = masks(random);
-    let string = &mut masks[random.index(4)];
-    let one = random.index(4);
-    let shared = random.jet();
-    string[one] |= shared;
-    string[(one + 1 + random.index(3)) % 4] |= shared;
-    masks
 }

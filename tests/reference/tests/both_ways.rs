@@ -3,25 +3,26 @@
 
 mod common;
 
-use common::{driver_on, with_major, Post, MAP, WIDE_MAP};
+use common::{driver_on, with_major, Post, FULL_MAP, MAP, NO_JETS, WIDE_MAP};
 use reference::hall::{
     Hall, Masks, BOTH_WAYS, COUNT_ENDED, NOTHING_SETTLED, OUTBOX_SHORT, REPEAT, STALE, TAKEN, WRONG_KIND,
 };
-use reference::jet::bit;
+use reference::jet::{bit, MANIFOLDS};
+use reference::maps::{masks, masks_of, union};
 use reference::monitor::STORE_LENGTH;
 use reference::random::Random;
 use reference::record::{sum, Record};
 use reference::report::Report;
 use reference::state::{hall_bytes, hall_from, HALL_LENGTH};
-use reference::world::{masks, name_both_ways, union, Chances, World};
+use reference::world::{name_both_ways, Chances, World};
 use reference::Monitor;
 
 /// Each manifold has its jets, in each string others.
 const MIXED_MAP: Masks = [
-    [0x0000_0001, 0x0000_0010, 0x0000_0100, 0x8000_0000],
-    [0x0000_00FF, 0x0000_FF00, 0x00FF_0000, 0xFF00_0000],
-    [0, 0, 0, 0x0003_0000],
-    [0; 4],
+    masks_of(&[0x0000_0001, 0x0000_0010, 0x0000_0100, 0x0000_1000, 0, 0x0200_0000, 0, 0x8000_0000]),
+    FULL_MAP[0],
+    masks_of(&[0, 0, 0, 0, 0, 0, 0, 0x0003_0000]),
+    NO_JETS,
 ];
 
 /// The record with inhibit and re-enable for these jets of string `s`.
@@ -118,7 +119,7 @@ fn jets_in_no_mask_named_both_ways_change_nothing() {
 
 #[test]
 fn over_a_refused_map_no_jet_is_mapped() {
-    let (_, monitor) = Monitor::start([[3, 1, 0, 0]; 4]);
+    let (_, monitor) = Monitor::start([masks_of(&[3, 1]); 4]);
     Post { monitor }.take(&both_ways(Record::quiet(25), 0, 3));
 }
 
@@ -203,14 +204,14 @@ fn the_record_is_gone_and_what_it_hides_is_not_seen() {
 fn no_bit_of_any_hall_changes() {
     let mut random = Random(19);
     for number in 0..400 {
-        let mut bytes: [u8; HALL_LENGTH] = random.bytes(HALL_LENGTH).try_into().expect("420 bytes");
+        let mut bytes: [u8; HALL_LENGTH] = random.bytes(HALL_LENGTH).try_into().expect("612 bytes");
         let n = random.word() / 25 * 25 + 24;
         bytes[..4].copy_from_slice(&n.to_be_bytes());
         let mut hall = hall_from(&bytes);
         let before = hall.clone();
         let mut record = Record::of_values(true, &random.bytes(615));
         record.wire = (n + 1) as u16;
-        // Four random words of a string leave a jet out now and then.
+        // The random words of a string may leave a jet out.
         let s = number % 4;
         let mapped = hall.strings[s].jets.iter().find(|jet| jet.is_mapped()).expect("a mapped jet").number;
         assert_eq!(hall.settle(&both_ways(record, s, 1 << mapped)), BOTH_WAYS);
@@ -221,8 +222,14 @@ fn no_bit_of_any_hall_changes() {
 
 #[test]
 fn a_jet_of_any_manifold_or_of_several_counts() {
-    for masks in [[8, 0, 0, 0], [0, 8, 0, 0], [0, 0, 8, 0], [0, 0, 0, 8], [8, 8, 0, 12], [8; 4]] {
-        let mut hall = Hall::fresh(&[[0; 4], [0; 4], masks, [0; 4]]);
+    let alone = (0..MANIFOLDS).map(|manifold| {
+        let mut masks = NO_JETS;
+        masks[manifold] = 8;
+        masks
+    });
+    for masks in alone.chain([masks_of(&[8, 8, 0, 12]), masks_of(&[0, 0, 0, 0, 8, 0, 0, 8]), [8; MANIFOLDS]])
+    {
+        let mut hall = Hall::fresh(&[NO_JETS, NO_JETS, masks, NO_JETS]);
         hall.n = 24;
         assert_eq!(hall.settle(&both_ways(Record::quiet(25), 2, 2)), TAKEN, "{masks:?}");
         hall.n = 24;

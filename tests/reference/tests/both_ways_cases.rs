@@ -2,14 +2,15 @@
 
 mod common;
 
-use common::driver_on;
+use common::{driver_on, WIDE_MAP};
 use reference::both_ways_cases::BothWaysCases;
 use reference::feed::masks_bytes;
 use reference::hall::{Hall, Masks, COUNT_ENDED, OUTBOX_SHORT};
+use reference::maps::masks_of;
 use reference::record::{sum, Record};
 
 /// The jets of string 3 are others.
-const MASKS: Masks = [[0x0F, 0xF0, 0, 0], [0x0F, 0xF0, 0, 0], [0x0F, 0xF0, 0, 0], [0, 0, 0x0F00, 0]];
+const MASKS: Masks = [WIDE_MAP[0], WIDE_MAP[0], WIDE_MAP[0], masks_of(&[0, 0, 0x0F00])];
 
 /// Inhibits and re-enables of string `s`.
 fn asking(mut record: Record, s: usize, inhibit: u32, re_enable: u32) -> Record {

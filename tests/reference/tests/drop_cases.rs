@@ -2,22 +2,24 @@
 
 mod common;
 
-use common::{driver_on, MAP};
+use common::{driver_on, MAP, NO_JETS};
+use reference::cases::EACH_MANIFOLD;
 use reference::claim_cases::ClaimCases;
 use reference::drop_cases::DropCases;
 use reference::feed::masks_bytes;
 use reference::hall::{Hall, Masks, COUNT_ENDED, OUTBOX_SHORT};
+use reference::jet::MANIFOLDS;
+use reference::maps::masks_of;
 use reference::monitor::STORE_LENGTH;
 use reference::record::Record;
 use reference::Monitor;
 
-/// One jet on each manifold of string 1, and jet 0 on manifold 2 of string 3.
-const MASKS: Masks = [[0; 4], [0x01, 0x02, 0x04, 0x08], [0; 4], [0, 0, 0x01, 0]];
+/// One jet on each of manifolds 0 to 3 of string 1, and jet 0 on manifold 2 of string 3.
+const MASKS: Masks = [NO_JETS, masks_of(&[0x01, 0x02, 0x04, 0x08]), NO_JETS, masks_of(&[0, 0, 0x01])];
 
 const GONE: &str = "a drop carried out, and the bit is gone: each manifold of each string";
 const SET_AGAIN: &str = "a drop carried out, and step 6 sets the bit again: each manifold of each string";
 const LOST: &str = "a drop lost under a path fault, and the bit stays: each manifold of each string";
-const RESERVED: &str = "a major lost by one reserved drop bit alone: bits 4 to 7 of string 0, 1, 2, 3";
 
 /// Drivers of string 1 on, and this drop byte.
 fn asking(n: u64, drivers: u32, drops: u8) -> Record {
@@ -31,7 +33,7 @@ fn with_path(mut record: Record, path: u8) -> Record {
     record
 }
 
-/// The records with which every manifold of string 1 is closed at 75, and these behind them.
+/// The records with which manifolds 0 to 3 of string 1 are closed at 75, and these behind them.
 fn closed_then(records: &[Record]) -> Vec<u8> {
     let closed = [25, 50, 75].map(|n| driver_on(n, 1, 0x0F));
     closed.iter().chain(records).flat_map(Record::bytes).collect()
@@ -52,10 +54,10 @@ fn met_in(feed: &[u8]) -> Vec<String> {
     met(cases)
 }
 
-/// Sixteen counts, of which these are not 0.
-fn counts(wanted: &[(usize, u64)]) -> String {
-    let mut counts = [0; 16];
-    wanted.iter().for_each(|(place, count)| counts[*place] = *count);
+/// A count for each manifold of each string, of which these are not 0.
+fn counts(wanted: &[(usize, usize)]) -> String {
+    let mut counts = [0; EACH_MANIFOLD];
+    wanted.iter().for_each(|(s, manifold)| counts[MANIFOLDS * s + manifold] = 1);
     format!("{counts:?}")
 }
 
@@ -69,8 +71,8 @@ fn a_bit_that_goes_and_one_that_is_set_again() {
     assert_eq!(
         met_in(&closed_then(&[asking(100, 0x02, 0x03)])),
         [
-            format!("{GONE}: {}", counts(&[(4, 1)])),
-            format!("{SET_AGAIN}: {}", counts(&[(5, 1)])),
+            format!("{GONE}: {}", counts(&[(1, 0)])),
+            format!("{SET_AGAIN}: {}", counts(&[(1, 1)])),
             "a bit gone, and one not named stays: of its string, of its manifold in another string: [1, 0]"
                 .into(),
             "a bit set by three bad majors, the drop at the third, at the second of them: [1, 0]".into(),
@@ -85,7 +87,7 @@ fn several_bits_and_a_path_that_is_back() {
     assert_eq!(
         met_in(&closed_then(&[back, with_path(asking(100, 0, 0x0F), 0x08)])),
         [
-            format!("{GONE}: {}", counts(&[(4, 1), (5, 1), (6, 1), (7, 1)])),
+            format!("{GONE}: {}", counts(&[(1, 0), (1, 1), (1, 2), (1, 3)])),
             "a bit gone: under a path fault of other strings, in the record by which its path is back: [1, 1]".into(),
             "bits gone: several of a string, of several strings: [1, 0]".into(),
             "a bit gone where d is 1, 2 to 25, more: [1, 0, 0]".into(),
@@ -97,7 +99,7 @@ fn several_bits_and_a_path_that_is_back() {
 fn a_drop_that_is_lost() {
     assert_eq!(
         met_in(&closed_then(&[with_path(asking(100, 0, 0x08), 0x02)])),
-        [format!("{LOST}: {}", counts(&[(7, 1)]))]
+        [format!("{LOST}: {}", counts(&[(1, 3)]))]
     );
 }
 
@@ -111,7 +113,7 @@ fn strings_beside_each_other() {
     assert_eq!(
         met_in(&bytes(&[&both[..], &[asking(100, 0, 0x04)]].concat())),
         [
-            format!("{GONE}: {}", counts(&[(6, 1)])),
+            format!("{GONE}: {}", counts(&[(1, 2)])),
             "a bit gone, and one not named stays: of its string, of its manifold in another string: [0, 1]"
                 .into(),
             "a bit gone where d is 1, 2 to 25, more: [0, 1, 0]".into(),
@@ -120,7 +122,7 @@ fn strings_beside_each_other() {
     assert_eq!(
         met_in(&bytes(&[&both[..], &[drop_both]].concat())),
         [
-            format!("{GONE}: {}", counts(&[(6, 1), (14, 1)])),
+            format!("{GONE}: {}", counts(&[(1, 2), (3, 2)])),
             "bits gone: several of a string, of several strings: [0, 1]".into(),
             "a bit gone where d is 1, 2 to 25, more: [0, 0, 1]".into(),
         ]
@@ -144,7 +146,7 @@ fn where_no_bit_is_set() {
 
 #[test]
 fn a_bit_that_comes_later() {
-    let gone = format!("{GONE}: {}", counts(&[(4, 1)]));
+    let gone = format!("{GONE}: {}", counts(&[(1, 0)]));
     let named =
         "a bit gone, and one not named stays: of its string, of its manifold in another string: [1, 0]";
     let later = "a bit gone, and gained by a later record: [1]";
@@ -195,21 +197,6 @@ fn what_only_halls_have() {
     let said = met(cases);
     let line = "a bit gone of a manifold without jets, of a close word with bits above: [1, 1]";
     assert!(said.contains(&line.into()), "{said:?}");
-}
-
-#[test]
-fn majors_lost_by_a_reserved_bit() {
-    assert_eq!(met_in(&asking(25, 0, 0x21).bytes()), [format!("{RESERVED}: {}", counts(&[(5, 1)]))]);
-    // Two reserved bits, a wrong sum, another reserved bit, and a quantity too large besides.
-    let mut wrong_sum = asking(25, 0, 0x20).bytes();
-    wrong_sum[618] ^= 1;
-    let mut valves = asking(25, 0, 0x20);
-    valves.strings[0].valves = 0x1F;
-    let mut quantity = asking(25, 0, 0x20);
-    quantity.major.as_mut().unwrap().quantities[0][0] = 1_001;
-    for bytes in [asking(25, 0, 0x30).bytes(), wrong_sum, valves.bytes(), quantity.bytes()] {
-        assert_eq!(met_in(&bytes), [""; 0]);
-    }
 }
 
 /// The first call of a state with this claim, whose store begins with a major record of cycle 25.

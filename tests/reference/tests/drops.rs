@@ -1,23 +1,12 @@
-//! Close bits that are dropped: the nights of it, which bits go and which stay, that nothing else changes, and
-//! the record that asks for it.
+//! Close bits that are dropped: the nights of it, which bits go and which stay, and that nothing else changes.
 
 mod common;
 
-use common::{driver_on, with_major, Post, MAP};
-use reference::hall::{
-    Hall, Masks, BOTH_WAYS, COUNT_ENDED, NOTHING_SETTLED, OUTBOX_SHORT, REPEAT, STALE, TAKEN, WRONG_KIND,
-};
-use reference::monitor::STORE_LENGTH;
+use common::{driver_on, with_major, Post, ALL, FULL_MAP, MAP, ONE_OF_EACH};
+use reference::hall::{Hall, Masks, BOTH_WAYS, COUNT_ENDED, OUTBOX_SHORT, REPEAT, STALE, TAKEN, WRONG_KIND};
 use reference::random::Random;
-use reference::record::{sum, Record, StringMajor};
-use reference::report::Report;
+use reference::record::{Record, StringMajor};
 use reference::state::{hall_from, HALL_LENGTH};
-use reference::Monitor;
-
-/// Four jets on each manifold of each string.
-const FULL_MAP: Masks = [[0x000F, 0x00F0, 0x0F00, 0xF000]; 4];
-/// One jet of each manifold.
-const ONE_OF_EACH: u32 = 0x1111;
 
 /// What a major record says of each string.
 fn strings(record: &mut Record) -> &mut [StringMajor; 4] {
@@ -50,7 +39,7 @@ fn closed_at_75(masks: Masks, jets: u32, close: u8) -> Post {
 fn all_closed() -> Post {
     let mut post = Post::over(FULL_MAP);
     post.quiet_until(99);
-    post.monitor.hall.strings.iter_mut().for_each(|string| string.close = 0x0F);
+    post.monitor.hall.strings.iter_mut().for_each(|string| string.close = ALL.into());
     post
 }
 
@@ -93,8 +82,20 @@ fn a_drop_under_a_path_fault_is_lost_and_has_to_be_asked_for_again() {
 
 #[test]
 fn a_drop_of_one_manifold_leaves_the_others() {
-    let mut post = closed_at_75(FULL_MAP, ONE_OF_EACH, 0x0F);
-    assert_eq!(post.take(&dropping(Record::quiet(100), 0, 0x04)).close[0], 0x0B);
+    let mut post = closed_at_75(FULL_MAP, ONE_OF_EACH, ALL);
+    assert_eq!(post.take(&dropping(Record::quiet(100), 0, 0x04)).close[0], 0xFB);
+}
+
+#[test]
+fn manifold_7_is_closed_and_dropped_as_manifold_0_is() {
+    let mut post = closed_at_75(FULL_MAP, 0x8000_0000, 0x80);
+    assert_eq!(post.take(&dropping(Record::quiet(100), 0, 0x7F)).close[0], 0x80);
+    post.quiet_until(124);
+    assert_eq!(post.take(&dropping(driver_on(125, 0, 0x8000_0000), 0, 0x80)).close[0], 0);
+    for (n, close) in [(150, 0), (175, 0x80)] {
+        post.quiet_until(n - 1);
+        assert_eq!(post.take(&driver_on(n, 0, 0x8000_0000)).close[0], close, "cycle {n}");
+    }
 }
 
 #[test]
@@ -104,21 +105,22 @@ fn a_drop_of_a_manifold_with_no_close_bit_changes_nothing() {
         let mut quiet = Post::over(MAP);
         for n in [25, 50] {
             let record = driver_on(n, 0, jets);
-            assert_eq!(asking.take(&dropping(record.clone(), 0, 0x0F)), quiet.take(&record));
+            assert_eq!(asking.take(&dropping(record.clone(), 0, ALL)), quiet.take(&record));
             assert_eq!(asking.monitor, quiet.monitor);
         }
     }
-    let mut post = closed_at_75(FULL_MAP, 0x0110, 0x06);
-    assert_eq!(post.take(&dropping(Record::quiet(100), 0, 0x09)).close[0], 0x06);
+    let mut post = closed_at_75(FULL_MAP, 0x0110_0110, 0x66);
+    assert_eq!(post.take(&dropping(Record::quiet(100), 0, 0x99)).close[0], 0x66);
 }
 
 #[test]
 fn each_drop_byte_of_each_string_takes_away_what_it_names_and_no_more() {
+    let closed = all_closed();
     for s in 0..4 {
-        for drops in 0..=0x0F {
-            let mut post = all_closed();
-            let mut wanted = [0x0F; 4];
-            wanted[s] = 0x0F & !drops;
+        for drops in 0..=ALL {
+            let mut post = closed.clone();
+            let mut wanted = [ALL; 4];
+            wanted[s] = ALL & !drops;
             assert_eq!(post.take(&dropping(Record::quiet(100), s, drops)).close, wanted, "string {s}");
         }
     }
@@ -127,10 +129,10 @@ fn each_drop_byte_of_each_string_takes_away_what_it_names_and_no_more() {
 #[test]
 fn each_string_has_its_own_byte() {
     let mut record = Record::quiet(100);
-    for (s, drops) in [0x01, 0x02, 0x0C, 0x00].into_iter().enumerate() {
+    for (s, drops) in [0x01, 0x82, 0x3C, 0x00].into_iter().enumerate() {
         record = dropping(record, s, drops);
     }
-    assert_eq!(all_closed().take(&record).close, [0x0E, 0x0D, 0x03, 0x0F]);
+    assert_eq!(all_closed().take(&record).close, [0xFE, 0x7D, 0xC3, 0xFF]);
 }
 
 #[test]
@@ -139,9 +141,9 @@ fn strings_under_a_path_fault_lose_their_drops_and_the_others_do_not() {
         let mut post = all_closed();
         let mut record = with_path(Record::quiet(100), path);
         for s in 0..4 {
-            record = dropping(record, s, 0x0F);
+            record = dropping(record, s, ALL);
         }
-        let wanted = [0, 1, 2, 3].map(|s| if (path >> s) % 2 == 1 { 0x0F } else { 0 });
+        let wanted = [0, 1, 2, 3].map(|s| if (path >> s) % 2 == 1 { ALL } else { 0 });
         assert_eq!(post.take(&record).close, wanted, "path {path:x}");
         post.take(&Record::quiet(101));
         assert_eq!(close_words(&post.monitor.hall), wanted.map(u32::from));
@@ -225,14 +227,14 @@ fn a_drop_in_a_record_answered_7_is_not_done_and_without_the_conflict_it_is() {
     for s in 0..4 {
         let mut post = all_closed();
         let before = post.monitor.clone();
-        let mut record = dropping(Record::quiet(100), s, 0x0F);
+        let mut record = dropping(Record::quiet(100), s, ALL);
         strings(&mut record)[0].inhibit = 1;
         let clean = record.clone();
         strings(&mut record)[0].re_enable = 1;
         let refused = post.send(&record);
-        assert_eq!((refused.answer, refused.close), (BOTH_WAYS, [0x0F; 4]));
+        assert_eq!((refused.answer, refused.close), (BOTH_WAYS, [ALL; 4]));
         assert_eq!(post.monitor, before);
-        let mut wanted = [0x0F; 4];
+        let mut wanted = [ALL; 4];
         wanted[s] = 0;
         let taken = post.take(&clean);
         assert_eq!((taken.fail[0], taken.close), (1, wanted));
@@ -243,26 +245,26 @@ fn a_drop_in_a_record_answered_7_is_not_done_and_without_the_conflict_it_is() {
 fn a_drop_in_any_other_record_that_is_refused_is_not_done() {
     let mut post = all_closed();
     post.take(&Record::quiet(100));
-    let asking = dropping(Record::quiet(0), 2, 0x0F);
+    let asking = dropping(Record::quiet(0), 2, ALL);
     for (wire, answer) in
         [(75, STALE), (100 + 32_768, STALE), (100, REPEAT), (101, WRONG_KIND), (124, WRONG_KIND)]
     {
         let before = post.monitor.clone();
         let report = post.send(&Record { wire, ..asking.clone() });
-        assert_eq!((report.answer, report.close), (answer, [0x0F; 4]), "wire cycle {wire}");
+        assert_eq!((report.answer, report.close), (answer, [ALL; 4]), "wire cycle {wire}");
         assert_eq!(post.monitor, before);
     }
     let bytes = Record { wire: 125, ..asking.clone() }.bytes();
     assert_eq!(post.monitor.call(&bytes, &mut [0; 33]), (OUTBOX_SHORT, 0));
-    assert_eq!(close_words(&post.monitor.hall), [0x0F; 4]);
+    assert_eq!(close_words(&post.monitor.hall), [0xFF; 4]);
     assert_eq!(post.monitor.call(&bytes, &mut [0; 34]), (TAKEN, 619));
-    assert_eq!(close_words(&post.monitor.hall), [0x0F, 0x0F, 0, 0x0F]);
+    assert_eq!(close_words(&post.monitor.hall), [0xFF, 0xFF, 0, 0xFF]);
 
     // 4,294,967,300 is a multiple of 25.
     let mut post = all_closed();
     post.monitor.hall.n = u32::MAX - 1;
     let report = post.send(&Record { wire: 4, ..asking });
-    assert_eq!((report.answer, report.close), (COUNT_ENDED, [0x0F; 4]));
+    assert_eq!((report.answer, report.close), (COUNT_ENDED, [ALL; 4]));
 }
 
 /// Any hall and any record: close bits alone depend on the drop bytes, and do so as step 5 says.
@@ -270,7 +272,7 @@ fn a_drop_in_any_other_record_that_is_refused_is_not_done() {
 fn nothing_of_any_hall_but_the_named_close_bits_changes() {
     let mut random = Random(29);
     for _ in 0..1_000 {
-        let bytes: [u8; HALL_LENGTH] = random.bytes(HALL_LENGTH).try_into().expect("420 bytes");
+        let bytes: [u8; HALL_LENGTH] = random.bytes(HALL_LENGTH).try_into().expect("612 bytes");
         let mut before = hall_from(&bytes);
         before.n = before.n / 25 * 25 + 24;
         let mut unasking = Record::of_values(true, &random.bytes(615));
@@ -279,7 +281,7 @@ fn nothing_of_any_hall_but_the_named_close_bits_changes() {
             (string.re_enable, string.drops) = (!string.inhibit, 0);
         }
         let mut asking = unasking.clone();
-        strings(&mut asking).iter_mut().for_each(|string| string.drops = random.below(16) as u8);
+        strings(&mut asking).iter_mut().for_each(|string| string.drops = random.word() as u8);
 
         let after = |mut hall: Hall, record: &Record| {
             assert_eq!(hall.settle(record), TAKEN);
@@ -300,70 +302,8 @@ fn nothing_of_any_hall_but_the_named_close_bits_changes() {
 fn a_manifold_without_jets_loses_its_bit_too() {
     let mut post = Post::over(MAP);
     post.monitor.hall.strings[2].close = 0xFFFF_FFFF;
-    assert_eq!(post.take(&dropping(Record::quiet(25), 2, 0x0F)).close[2], 0xF0);
-    assert_eq!(post.monitor.hall.strings[2].close, 0xFFFF_FFF0);
-}
-
-#[test]
-fn a_reserved_drop_bit_loses_the_record_and_not_what_stands_inside() {
-    for s in 0..4 {
-        for bit in 4..8 {
-            let mut bytes = dropping(Record::quiet(25), s, 1 << bit).bytes();
-            let (_, mut monitor) = Monitor::start(MAP);
-            assert_eq!(monitor.call(&bytes, &mut [0; 34]), (NOTHING_SETTLED, 619));
-            assert_eq!((monitor.held, monitor.hall.n), (0, 0), "string {s}, bit {bit}");
-
-            bytes[100..159].copy_from_slice(&Record::quiet(1).bytes());
-            bytes.truncate(617);
-            bytes.extend(sum(&bytes).to_be_bytes());
-            let mut outbox = [0; 34];
-            assert_eq!(monitor.call(&bytes, &mut outbox), (TAKEN, 619));
-            assert_eq!((Report::read(&outbox).n, monitor.held), (1, 619 - 159));
-        }
-    }
-}
-
-#[test]
-fn of_a_record_618_bytes_are_held_and_its_last_settles_it() {
-    let bytes = dropping(Record::quiet(25), 3, 0x0F).bytes();
-    assert_eq!(bytes.len(), 619);
-    let mut outbox = [0; 34];
-    let (_, mut monitor) = Monitor::start(MAP);
-    assert_eq!(monitor.call(&bytes[..618], &mut outbox), (NOTHING_SETTLED, 618));
-    assert_eq!((monitor.held, &monitor.store[..]), (618, &[&bytes[..618], &[0]].concat()[..]));
-    assert_eq!(monitor.call(&bytes[618..], &mut outbox), (TAKEN, 1));
-    assert_eq!((monitor.held, monitor.store), (0, [0; STORE_LENGTH]));
-}
-
-#[test]
-fn a_claim_of_up_to_618_is_held_and_one_of_619_is_not() {
-    let bytes = dropping(Record::quiet(25), 0, 0x0F).bytes();
-    let store: [u8; STORE_LENGTH] = bytes.clone().try_into().expect("619 bytes");
-    for claim in [614, 615, 616, 617, 618] {
-        let (_, mut monitor) = Monitor::start(MAP);
-        monitor.hall.strings[0].close = 0x0F;
-        monitor.hand_in(24, claim, store);
-        let rest = &bytes[claim.into()..];
-        assert_eq!(monitor.call(rest, &mut [0; 34]), (TAKEN, rest.len()), "{claim}");
-        assert_eq!(monitor.hall.strings[0].close, 0);
-    }
-    for claim in [619, 620, 65_535] {
-        let (_, mut monitor) = Monitor::start(MAP);
-        monitor.hand_in(24, claim, store);
-        assert_eq!(monitor.call(&[], &mut [0; 34]), (NOTHING_SETTLED, 0), "{claim}");
-        assert_eq!((monitor.held, monitor.store), (0, [0; STORE_LENGTH]));
-    }
-}
-
-#[test]
-fn a_major_without_drop_bytes_is_not_read() {
-    let whole = Record::quiet(25).bytes();
-    let mut short = [&whole[..601], &whole[605..617]].concat();
-    short.extend(sum(&short).to_be_bytes());
-    assert_eq!(short.len(), 615);
-    let (_, mut monitor) = Monitor::start(MAP);
-    let feed = [short, Record::quiet(26).bytes()].concat();
-    let mut outbox = [0; 34];
-    assert_eq!(monitor.call(&feed, &mut outbox), (TAKEN, feed.len()));
-    assert_eq!((Report::read(&outbox).n, monitor.held), (26, 0));
+    assert_eq!(post.take(&dropping(Record::quiet(25), 2, 0xF3)).close[2], 0x0C);
+    assert_eq!(post.monitor.hall.strings[2].close, 0xFFFF_FF0C);
+    assert_eq!(post.take(&dropping(Record::quiet(50), 2, ALL)).close[2], 0);
+    assert_eq!(post.monitor.hall.strings[2].close, 0xFFFF_FF00);
 }

@@ -2,19 +2,21 @@
 
 mod common;
 
-use common::{driver_on, with, with_major, MAP};
+use common::{driver_on, with, with_major, MAP, NO_JETS};
 use reference::counted::Counted;
-use reference::foreign::{script, Cases};
+use reference::foreign::script;
+use reference::foreign_cases::ForeignCases;
 use reference::hall::{Hall, TAKEN};
 use reference::jet::{bit, Jet};
+use reference::maps::masks_of;
 use reference::random::Random;
 use reference::record::Record;
 use reference::report::Report;
 use reference::state::{hall_bytes, hall_from, HALL_LENGTH};
 
 /// A hall over these masks of string 0, with this fail word and these valves there.
-fn hall(masks: [u32; 4], fail: u32, valves: u32) -> Hall {
-    let mut hall = Hall::fresh(&[masks, [0; 4], [0; 4], [0; 4]]);
+fn hall(masks: &[u32], fail: u32, valves: u32) -> Hall {
+    let mut hall = Hall::fresh(&[masks_of(masks), NO_JETS, NO_JETS, NO_JETS]);
     put(&mut hall, fail, |jet| &mut jet.failed);
     hall.strings[0].valves = valves;
     hall
@@ -37,7 +39,7 @@ fn take(hall: &mut Hall, record: &Record) -> Report {
 
 #[test]
 fn the_whole_saved_set_leaves_the_fail_word_and_stays() {
-    let mut hall = hall([0x0F, 0, 0, 0], 0x0001_001F, 0x0E);
+    let mut hall = hall(&[0x0F], 0x0001_001F, 0xFE);
     put(&mut hall, 0x0001_0013, |jet| &mut jet.saved[0]);
     assert_eq!(take(&mut hall, &Record::quiet(1)).fail[0], 0x0C);
     assert_eq!(get(&hall, |jet| jet.failed), 0x0C);
@@ -46,29 +48,29 @@ fn the_whole_saved_set_leaves_the_fail_word_and_stays() {
 
 #[test]
 fn closing_saves_none_but_the_manifolds_own_jets() {
-    let mut hall = hall([0x0F, 0, 0, 0], 0x04, 0x0F);
+    let mut hall = hall(&[0x0F], 0x04, 0xFF);
     put(&mut hall, 0xF0, |jet| &mut jet.saved[0]);
-    take(&mut hall, &with(1, 0, |words| words.valves = 0x0E));
+    take(&mut hall, &with(1, 0, |words| words.valves = 0xFE));
     assert_eq!((get(&hall, |jet| jet.failed), get(&hall, |jet| jet.saved[0])), (0x0F, 0x0B));
 }
 
 #[test]
 fn where_masks_overlap_the_lowest_manifold_is_first() {
     // Both close: the second finds the shared jet failed.
-    let mut both = hall([0x3, 0x6, 0, 0], 0, 0x0F);
-    take(&mut both, &with(1, 0, |words| words.valves = 0x0C));
+    let mut both = hall(&[0x3, 0x6], 0, 0xFF);
+    take(&mut both, &with(1, 0, |words| words.valves = 0xFC));
     assert_eq!((get(&both, |jet| jet.saved[0]), get(&both, |jet| jet.saved[1])), (0x3, 0x4));
     assert_eq!(get(&both, |jet| jet.failed), 0x7);
     // The first closes, the second opens: its saved jets are good again.
-    let mut one = hall([0x3, 0x6, 0, 0], 0, 0x0D);
+    let mut one = hall(&[0x3, 0x6], 0, 0xFD);
     put(&mut one, 0x6, |jet| &mut jet.saved[1]);
-    take(&mut one, &with(1, 0, |words| words.valves = 0x0E));
+    take(&mut one, &with(1, 0, |words| words.valves = 0xFE));
     assert_eq!(get(&one, |jet| jet.failed), 0x1);
 }
 
 #[test]
 fn a_jet_of_two_manifolds_closes_both() {
-    let mut hall = hall([0x2, 0x2, 0x4, 0], 0, 0x0F);
+    let mut hall = hall(&[0x2, 0x2, 0x4], 0, 0xFF);
     hall.n = 24;
     hall.strings[0].close = 0x100;
     put(&mut hall, 0x2, |jet| &mut jet.recheck);
@@ -78,7 +80,7 @@ fn a_jet_of_two_manifolds_closes_both() {
 
 #[test]
 fn bits_of_jets_in_no_mask_are_stepped_and_not_reported() {
-    let mut hall = hall([0x0F, 0, 0, 0], 0x30, 0x0F);
+    let mut hall = hall(&[0x0F], 0x30, 0xFF);
     hall.n = 24;
     put(&mut hall, 0x10, |jet| &mut jet.re_enabled);
     put(&mut hall, 0x40, |jet| &mut jet.inhibited);
@@ -97,23 +99,23 @@ fn bits_of_jets_in_no_mask_are_stepped_and_not_reported() {
 
 #[test]
 fn high_bits_of_the_valves_name_nothing() {
-    let mut hall = hall([0x0F, 0, 0, 0], 0, 0xFFFF_FFFF);
+    let mut hall = hall(&[0x0F], 0, 0xFFFF_FFFF);
     hall.strings[0].path_fault = true;
-    hall.strings[0].good_valves = 0xFF00_000F;
+    hall.strings[0].good_valves = 0xFF00_00FF;
     let mut broken = Record::quiet(1);
     broken.path = 1;
     assert_eq!(take(&mut hall, &broken).fail[0], 0);
     assert_eq!(hall.strings[0].valves, 0xFFFF_FFFF);
     assert_eq!(take(&mut hall, &Record::quiet(2)).fail[0], 0);
-    assert_eq!((hall.strings[0].valves, hall.strings[0].good_valves), (0x0F, 0xFF00_000F));
+    assert_eq!((hall.strings[0].valves, hall.strings[0].good_valves), (0xFF, 0xFF00_00FF));
 }
 
 #[test]
 fn a_hall_is_read_as_it_was_written() {
-    let flags = [152, 237, 322, 407, 408, 409, 412, 413, 416, 417];
+    let flags = [248, 365, 482, 599, 600, 601, 604, 605, 608, 609];
     let mut random = Random(7);
     for _ in 0..200 {
-        let mut given: [u8; HALL_LENGTH] = random.bytes(HALL_LENGTH).try_into().expect("420 bytes");
+        let mut given: [u8; HALL_LENGTH] = random.bytes(HALL_LENGTH).try_into().expect("612 bytes");
         for place in flags {
             given[place] = random.pick(&[0, 0, 1, 2, 255]);
         }
@@ -128,7 +130,7 @@ fn a_hall_is_read_as_it_was_written() {
 
 #[test]
 fn random_halls_meet_every_case() {
-    let (mut cases, mut counted) = (Cases::default(), Counted::of_halls());
+    let (mut cases, mut counted) = (ForeignCases::default(), Counted::of_halls());
     for seed in 0..400 {
         script(seed, &mut cases, &mut counted);
     }

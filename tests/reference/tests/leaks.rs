@@ -3,22 +3,23 @@
 
 mod common;
 
-use common::Post;
+use common::{Post, FULL_MAP, NO_JETS};
 use reference::hall::Masks;
 use reference::jet::{bit, leaks};
+use reference::maps::{masks_of, union};
 use reference::random::Random;
 use reference::record::Record;
-use reference::world::{temperatures, union};
+use reference::world::temperatures;
 use std::collections::HashSet;
 
 /// Eleven jets with gaps all over, all jets, none, and the last alone.
 const MASKS: Masks = [
-    [0x0000_0016, 0x0000_1180, 0x0018_8000, 0x4800_0000],
-    [0x0000_00FF, 0x0000_FF00, 0x00FF_0000, 0xFF00_0000],
-    [0; 4],
-    [0, 0, 0x8000_0000, 0],
+    masks_of(&[0x0000_0006, 0x0000_0010, 0x0000_0180, 0x0000_1000, 0, 0x0008_8000, 0x0010_0000, 0x4800_0000]),
+    FULL_MAP[0],
+    NO_JETS,
+    masks_of(&[0, 0, 0, 0, 0, 0, 0x8000_0000]),
 ];
-const ALL_JETS: Masks = [[0xFFFF_FFFF, 0, 0, 0]; 4];
+const ALL_JETS: Masks = [masks_of(&[0xFFFF_FFFF]); 4];
 
 /// Each leaks: by one word or both, from 0 on, below zero, or both.
 const LEAKING_WORDS: [[u16; 2]; 9] = [

@@ -1,4 +1,4 @@
-//! The nights to try of document 01, in its order, as orders 3 and 6 of document 02 amend them.
+//! The nights to try of document 01, in its order, as orders 3, 6 and 7 of document 02 amend them.
 
 mod common;
 
@@ -14,9 +14,9 @@ fn first_record_gives_the_printed_report() {
     let mut record = vec![0x52, 0x4D, 0x00, 0x01, 0x00];
     for _ in 0..4 {
         record.extend([0; 12]);
-        record.push(0x0F);
+        record.push(0xFF);
     }
-    record.extend([0x00, 0xDC]);
+    record.extend([0x04, 0x9C]);
     let mut expected = vec![0x52, 0x52, 0x00, 0x00, 0x00, 0x00, 0x01];
     expected.extend([0; 27]);
 
@@ -72,7 +72,7 @@ fn valve_that_closes_and_opens_leaves_the_jet_that_failed_off() {
     for n in 1..=3 {
         post.take(&no_pressure(n, 0, 4));
     }
-    assert_eq!(post.take(&with(4, 0, |words| words.valves = 0x0E)).fail[0], 0x0000_000F);
+    assert_eq!(post.take(&with(4, 0, |words| words.valves = 0xFE)).fail[0], 0x0000_000F);
     assert_eq!(post.take(&Record::quiet(5)).fail[0], 0x0000_0004);
 }
 

@@ -3,7 +3,8 @@
 mod common;
 
 use common::{no_pressure, with, with_major, Post, MAP, WIDE_MAP};
-use reference::hall::{NOTHING_SETTLED, OUTBOX_SHORT, TAKEN};
+use reference::hall::{EMPTY_MAP, NOTHING_SETTLED, OUTBOX_SHORT, TAKEN};
+use reference::maps::masks_of;
 use reference::monitor::STORE_LENGTH;
 use reference::record::Record;
 use reference::Monitor;
@@ -11,19 +12,17 @@ use reference::Monitor;
 #[test]
 fn overlapping_masks_give_6_and_the_empty_map() {
     let mut masks = WIDE_MAP;
-    masks[3] = [1, 2, 4, 9];
-    assert_eq!(Monitor::start(masks), (6, Monitor::start([[0; 4]; 4]).1));
+    masks[3] = masks_of(&[1, 2, 4, 9]);
+    assert_eq!(Monitor::start(masks), (6, Monitor::start(EMPTY_MAP).1));
 }
 
 #[test]
 fn records_with_reserved_bits_or_large_quantities_are_dropped() {
     let mut path = Record::quiet(1);
     path.path = 0x10;
-    let valves = with(1, 3, |words| words.valves = 0x8F);
-    let drops = with_major(25, 3, |major| major.drops = 0x80);
     let mut quantity = Record::quiet(25);
     quantity.major.as_mut().unwrap().quantities[2][1] = 1_001;
-    for bytes in [path, valves, drops, quantity].map(|record| record.bytes()) {
+    for bytes in [path, quantity].map(|record| record.bytes()) {
         let (_, mut monitor) = Monitor::start(MAP);
         assert_eq!(monitor.call(&bytes, &mut [0; 34]), (NOTHING_SETTLED, bytes.len()));
         assert_eq!(monitor.held, 0);
@@ -61,7 +60,7 @@ fn re_enabled_jet_does_not_fail_until_its_valve_closes() {
     for n in 26..=29 {
         assert_eq!(post.take(&no_pressure(n, 0, 1)).fail[0], 0);
     }
-    assert_eq!(post.take(&with(30, 0, |words| words.valves = 0x0E)).fail[0], 0x0F);
+    assert_eq!(post.take(&with(30, 0, |words| words.valves = 0xFE)).fail[0], 0x0F);
     for (n, fail) in [(31, 0), (32, 0), (33, 1)] {
         assert_eq!(post.take(&no_pressure(n, 0, 1)).fail[0], fail);
     }

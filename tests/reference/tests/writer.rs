@@ -3,7 +3,7 @@
 
 mod common;
 
-use common::{with, with_major, WIDE_MAP};
+use common::{with, with_major, ALL, WIDE_MAP};
 use reference::hall::{BOTH_WAYS, TAKEN, WRONG_KIND};
 use reference::random::Random;
 use reference::reader::look;
@@ -65,9 +65,9 @@ fn first_record_of_the_nights_is_as_printed() {
     let mut printed = vec![0x52, 0x4D, 0x00, 0x01, 0x00];
     for _ in 0..4 {
         printed.extend([0; 12]);
-        printed.push(0x0F);
+        printed.push(0xFF);
     }
-    printed.extend([0x00, 0xDC]);
+    printed.extend([0x04, 0x9C]);
     assert_eq!(written(&Record::quiet(1), 59), (WRITTEN, printed));
 }
 
@@ -116,7 +116,7 @@ fn temperature_words_of_each_range_are_written_as_they_are() {
 
 #[test]
 fn drop_bytes_are_written_behind_the_re_enable_words_of_all_strings() {
-    for drops in 0..=0x0F {
+    for drops in 0..=ALL {
         for s in 0..4 {
             let record = with_major(25, s, |major| (major.re_enable, major.drops) = (u32::MAX, drops));
             let (answer, outbox) = written(&record, 619);
@@ -133,8 +133,8 @@ fn a_sum_above_65535_loses_what_is_beyond() {
     for string in &mut record.major.as_mut().expect("a major record").strings {
         string.temperatures = [[0xFFFF; 2]; 32];
     }
-    // 82 + 74 + 25 + 4 * 15 + 512 * 255 is 130,801, and 65,536 less is 65,265.
-    assert_eq!(written(&record, 619).1[617..], 65_265_u16.to_be_bytes());
+    // 82 + 74 + 25 + 4 * 255 + 512 * 255 is 131,761, and twice 65,536 less is 689.
+    assert_eq!(written(&record, 619).1[617..], 689_u16.to_be_bytes());
 }
 
 #[test]
@@ -144,12 +144,20 @@ fn each_reserved_bit_gets_1() {
             let mut path = record.clone();
             path.path |= 1 << bit;
             refused(&path, 700, RESERVED_BIT);
-            for s in 0..4 {
-                let mut valves = record.clone();
-                valves.strings[s].valves |= 1 << bit;
-                refused(&valves, 700, RESERVED_BIT);
-                refused(&with_major(25, s, |major| major.drops = 1 << bit), 700, RESERVED_BIT);
+        }
+    }
+}
+
+#[test]
+fn no_bit_of_a_valve_byte_or_of_a_drop_byte_is_reserved() {
+    for s in 0..4 {
+        for byte in 0..=ALL {
+            for mut record in both_kinds() {
+                record.strings[s].valves = byte;
+                assert_eq!(written(&record, length(&record)).1[17 + 13 * s], byte);
             }
+            let record = with_major(25, s, |major| major.drops = byte);
+            assert_eq!(written(&record, 619).0, WRITTEN, "string {s}, {byte:02x}");
         }
     }
 }
@@ -190,11 +198,7 @@ fn bytes_behind_the_record_stay() {
 #[test]
 fn of_several_faults_the_first_in_order_is_named() {
     let reserved = |mut record: Record| {
-        record.strings[3].valves |= 0x80;
-        record
-    };
-    let reserved_drop = |mut record: Record| {
-        record.major.as_mut().expect("a major record").strings[0].drops |= 0x10;
+        record.path |= 0x80;
         record
     };
     let large = |record| with_quantity(record, 5, 1_001);
@@ -203,8 +207,7 @@ fn of_several_faults_the_first_in_order_is_named() {
     refused(&reserved(large(major.clone())), 618, RESERVED_BIT);
     refused(&reserved(large(major.clone())), 619, RESERVED_BIT);
     refused(&reserved(major.clone()), 618, RESERVED_BIT);
-    refused(&reserved_drop(large(major.clone())), 618, RESERVED_BIT);
-    refused(&reserved_drop(major.clone()), 0, RESERVED_BIT);
+    refused(&reserved(major.clone()), 0, RESERVED_BIT);
     refused(&large(major.clone()), 618, LARGE_QUANTITY);
     refused(&large(major), 0, LARGE_QUANTITY);
 }
@@ -250,9 +253,7 @@ fn what_a_settled_record_held_is_written_as_its_bytes() {
 fn settled_bytes(is_major: bool, random: &mut Random) -> Vec<u8> {
     let mut bytes = random.bytes(if is_major { 617 } else { 57 });
     bytes[..2].copy_from_slice(&[0x52, if is_major { 0x4A } else { 0x4D }]);
-    for place in [4, 17, 30, 43, 56].into_iter().chain((601..605).filter(|_| is_major)) {
-        bytes[place] %= 16;
-    }
+    bytes[4] %= 16;
     for place in (605..bytes.len()).step_by(2) {
         let any = random.below(1_001) as u16;
         bytes[place..place + 2].copy_from_slice(&random.pick(&[any, 0, 1_000]).to_be_bytes());

@@ -28,7 +28,7 @@ starts-exactly masks fit = by (refused stringCount masks) refl
   where
     by : (b : Bool) → refused stringCount masks ≡ b → Starts masks (startedOver masks)
     by true e =
-        let two : TwoMasks masks = refused-exactly masks fit .0 e in
+        let two : TwoMasks manifoldCount masks = refused-exactly masks fit .0 e in
         rw e (record {
           refused = (λ x. two, λ x. refl);
           accepted = (λ x. let z : _≡_ {A = ℕ} 0 1 = cc in absurd (omega arith), λ f. absurd (f two));
@@ -39,7 +39,7 @@ starts-exactly masks fit = by (refused stringCount masks) refl
           modules = refl;
         })
     by false e =
-        let none : TwoMasks masks → ⊥ = λ x. not-both (refused stringCount masks) (refused-exactly masks fit .1 x) e in
+        let none : TwoMasks manifoldCount masks → ⊥ = λ x. not-both (refused stringCount masks) (refused-exactly masks fit .1 x) e in
         rw e (record {
           refused = (λ x. let z : _≡_ {A = ℕ} 0 1 = cc in absurd (omega arith), λ x. absurd (none x));
           accepted = (λ x. none, λ f. refl);

@@ -1,7 +1,7 @@
 -- A feed looked at all at once: its records one after the other, whatever the calls. Assumes nothing.
 use mathlib.Core.Path.{_≡_, refl, sym, ap, ap₂, subst, _∙_}
 use mathlib.Core.Bool.{true, false}
-use mathlib.Core.List.{List, [], _∷_, _++_, append-assoc}
+use mathlib.Core.List.{List, [], _++_, append-assoc}
 use Prim.Native.Nat.{ℕ, zero, suc, _≤_, _<_}
 use Rattle.bits.proofs.Yes.{not-both}
 use native.Mathlib.Omega.{arith}

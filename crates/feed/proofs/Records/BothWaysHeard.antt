@@ -10,7 +10,7 @@ use lib.ListN.{getD}
 use Rattle.bits.specs.Bit.{bit}
 use Rattle.bits.proofs.Yes.{not-both}
 use Rattle.bits.proofs.Bits.{bit-none}
-use Rattle.cycle.specs.Size.{stringCount}
+use Rattle.cycle.specs.Size.{stringCount, manifoldCount}
 use Rattle.cycle.specs.Records.{major}
 use Rattle.cycle.specs.Hall.{noRequests}
 use Rattle.cycle.specs.BothWays.{NamedBothWays}
@@ -37,7 +37,7 @@ module _ (masks : List Masks) (r : List ℕ) where
       requests-at r s l
       ∙ λ i. record { inhibit = four r (requestsFrom + requestsLength * s); reenable = four r (place i); drop = getD r (dropsFrom + s) 0 }
 
-  to-major : getD r 1 0 ≡ majorMark → NamedBothWays masks (major (majorOf r)) → BothWaysSaid masks r
+  to-major : getD r 1 0 ≡ majorMark → NamedBothWays manifoldCount masks (major (majorOf r)) → BothWaysSaid masks r
   unfolding majorOf
   to-major e x =
       let q = sym (words (x .string) (x .inHall)) in
@@ -53,7 +53,7 @@ module _ (masks : List Masks) (r : List ℕ) where
         reenable = ap (λ (p : Requests). bit (x .jet) (p .reenable)) q ∙ x .reenable;
       }
 
-  from-major : BothWaysSaid masks r → NamedBothWays masks (major (majorOf r))
+  from-major : BothWaysSaid masks r → NamedBothWays manifoldCount masks (major (majorOf r))
   unfolding majorOf
   from-major x =
       let q = words (x .string) (x .inHall) in
@@ -68,7 +68,7 @@ module _ (masks : List Masks) (r : List ℕ) where
         reenable = ap (λ (p : Requests). bit (x .jet) (p .reenable)) q ∙ x .reenable;
       }
 
-  pub both-ways-heard : NamedBothWays masks (valuesOf r) ↔ BothWaysSaid masks r
+  pub both-ways-heard : NamedBothWays manifoldCount masks (valuesOf r) ↔ BothWaysSaid masks r
   unfolding valuesOf
   both-ways-heard =
       by-test (eqb (getD r 1 0) majorMark) (λ t. rw t (to-major (eqb-true (getD r 1 0) majorMark t), from-major))

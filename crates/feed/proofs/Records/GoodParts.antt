@@ -9,38 +9,22 @@ use native.Mathlib.Omega.{arith}
 use borrow.Author.Tests.{lt-ltb, ltb-true, le-leb, leb-true, eq-eqb, eqb-true}
 use lib.Dec.{leb}
 use lib.ListN.{length}
-use Rattle.bits.specs.Bit.{every}
 use Rattle.bits.proofs.Yes.{and-left, and-right, and-both}
 use Rattle.bits.proofs.Every.{every-at, every-from}
-use Rattle.cycle.specs.Size.{stringCount, moduleCount}
+use Rattle.cycle.specs.Size.{moduleCount}
 use Rattle.feed.specs.Size.{reservedFrom, mostQuantity, quantitiesFrom, quantitiesLength, quantityLength}
 use Rattle.feed.specs.Bytes.{two}
-use Rattle.feed.specs.Format.{sumRight, sumOf, pathZero, valvesZero, reservedZero, dropZero, dropsZero, twoRight, quantitiesRight}
-use Rattle.feed.specs.Good.{ReservedZero, DropsZero, SumRight, QuantitiesRight}
+use Rattle.feed.specs.Format.{sumRight, sumOf, reservedZero, twoRight, quantitiesRight}
+use Rattle.feed.specs.Good.{ReservedZero, SumRight, QuantitiesRight}
 
 module _ (r : List ℕ) where
   pub reserved-to : reservedZero r ≡ true → ReservedZero r
   unfolding reservedZero
-  reserved-to e = record {
-    path = ltb-true _ reservedFrom (and-left (pathZero r) (every stringCount (valvesZero r)) e);
-    valves = λ s l.
-        ltb-true _ reservedFrom
-        (every-at stringCount (valvesZero r) (and-right (pathZero r) (every stringCount (valvesZero r)) e) s l);
-  }
+  reserved-to e = ltb-true _ reservedFrom e
 
   pub reserved-from : ReservedZero r → reservedZero r ≡ true
   unfolding reservedZero
-  reserved-from z =
-      and-both (pathZero r) (every stringCount (valvesZero r)) (lt-ltb _ reservedFrom (z .path))
-      (every-from stringCount (valvesZero r) (λ s l. lt-ltb _ reservedFrom (z .valves s l)))
-
-  pub drops-to : dropsZero r ≡ true → DropsZero r
-  unfolding dropsZero
-  drops-to e s l = ltb-true _ reservedFrom (every-at stringCount (dropZero r) e s l)
-
-  pub drops-from : DropsZero r → dropsZero r ≡ true
-  unfolding dropsZero
-  drops-from z = every-from stringCount (dropZero r) (λ s l. lt-ltb _ reservedFrom (z s l))
+  reserved-from z = lt-ltb _ reservedFrom z
 
   -- the two quantities of module m
   abbrev place : ℕ → ℕ

@@ -10,7 +10,7 @@ use lib.Dec.{eqb}
 use lib.ListN.{length, getD}
 use Rattle.bits.proofs.Yes.{and-left, and-right, and-both}
 use Rattle.feed.specs.Size.{markByte, minorMark, majorMark, minorLength, majorLength}
-use Rattle.feed.specs.Format.{rowOf, markOf, lengthOf, sumRight, reservedZero, dropsZero, quantitiesRight, goodMinor, goodMajor}
+use Rattle.feed.specs.Format.{rowOf, markOf, lengthOf, sumRight, reservedZero, quantitiesRight, goodMinor, goodMajor}
 use Rattle.feed.specs.Format.{goodKind, look}
 use Rattle.feed.specs.Good.{MinorRecord, MajorRecord, WholeRecord}
 use Rattle.feed.specs.declared.format.Kind.{Kind}
@@ -20,7 +20,7 @@ use Rattle.feed.specs.declared.format.Mark.the-variants.{Of}
 use Rattle.feed.specs.declared.format.Look.the-variants.{Settles}
 use Rattle.feed.proofs.Records.Lengths.{cond-by, kind-long}
 use Rattle.feed.proofs.Records.Tails.{settled-right, right-settles}
-use Rattle.feed.proofs.Records.GoodParts.{reserved-to, reserved-from, drops-to, drops-from, quantities-to, quantities-from}
+use Rattle.feed.proofs.Records.GoodParts.{reserved-to, reserved-from, quantities-to, quantities-from}
 use Rattle.feed.proofs.Records.GoodParts.{sum-to, sum-from}
 
 -- ---- marks
@@ -63,16 +63,13 @@ settles-whole r k s = by k (s .0) (settled-right r k (s .1))
       reserved = reserved-to r (and-right (sumRight minorLength r) (reservedZero r) (x .3));
     })
     by Major l x =
-        let three = and-left (sumRight majorLength r && reservedZero r && dropsZero r) (quantitiesRight r) (x .3) in
-        let front = and-left (sumRight majorLength r && reservedZero r) (dropsZero r) three in
+        let front = and-left (sumRight majorLength r && reservedZero r) (quantitiesRight r) (x .3) in
         inr (record {
           long = l;
           mark = (x .0, mark-of (getD r 1 0) Major (x .1));
           sum = sum-to r majorLength l (and-left _ (reservedZero r) front);
           reserved = reserved-to r (and-right (sumRight majorLength r) (reservedZero r) front);
-          drops = drops-to r (and-right (sumRight majorLength r && reservedZero r) (dropsZero r) three);
-          quantities =
-              quantities-to r (and-right (sumRight majorLength r && reservedZero r && dropsZero r) (quantitiesRight r) (x .3));
+          quantities = quantities-to r (and-right (sumRight majorLength r && reservedZero r) (quantitiesRight r) (x .3));
         })
 
 -- and a whole record settles
@@ -89,10 +86,8 @@ unfolding rowOf goodMajor
 major-settles r m = (
   m .long,
   right-settles r Major (m .mark .0) (of-mark (getD r 1 0) Major (m .mark .1)) (omega (arith, m .long))
-      (and-both (sumRight majorLength r && reservedZero r && dropsZero r) (quantitiesRight r)
-      (and-both (sumRight majorLength r && reservedZero r) (dropsZero r)
+      (and-both (sumRight majorLength r && reservedZero r) (quantitiesRight r)
       (and-both (sumRight majorLength r) (reservedZero r) (sum-from r majorLength (m .long) (m .sum)) (reserved-from r (m .reserved)))
-      (drops-from r (m .drops)))
       (quantities-from r (m .quantities))),
 )
 

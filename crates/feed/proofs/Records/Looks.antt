@@ -11,11 +11,11 @@ use lib.Dec.{eqb, ltb, leb}
 use lib.ListN.{length, getD, length-append, List·getD-append}
 use lib.Seq.{take-append-le}
 use Rattle.bits.proofs.Every.{every-same}
-use Rattle.cycle.specs.Size.{stringCount, moduleCount}
-use Rattle.feed.specs.Size.{markByte, minorLength, majorLength, sumLength, reservedFrom, mostQuantity, pathAt, samplesFrom}
-use Rattle.feed.specs.Size.{sampleLength, valvesIn, dropsFrom, quantitiesFrom, quantitiesLength, quantityLength}
+use Rattle.cycle.specs.Size.{moduleCount}
+use Rattle.feed.specs.Size.{markByte, minorLength, majorLength, sumLength, reservedFrom, mostQuantity, pathAt}
+use Rattle.feed.specs.Size.{quantitiesFrom, quantitiesLength, quantityLength}
 use Rattle.feed.specs.Bytes.{two}
-use Rattle.feed.specs.Format.{rowOf, markOf, lengthOf, sumOf, sumRight, valvesZero, reservedZero, dropZero, dropsZero, twoRight}
+use Rattle.feed.specs.Format.{rowOf, markOf, lengthOf, sumOf, sumRight, reservedZero, twoRight}
 use Rattle.feed.specs.Format.{quantitiesRight, goodMinor, goodMajor, goodKind, fullLook, markedLook, look}
 use Rattle.feed.specs.declared.format.Kind.{Kind}
 use Rattle.feed.specs.declared.format.Kind.the-variants.{Minor, Major}
@@ -53,14 +53,7 @@ module _ (l q : List ℕ) where
 
   reserved-append : minorLength ≤ length l → reservedZero (l ++ q) ≡ reservedZero l
   unfolding reservedZero
-  reserved-append h =
-      ap₂ (λ (x y : Bool). x && y) (below pathAt (omega arith))
-      (every-same stringCount (valvesZero (l ++ q)) (valvesZero l)
-      (λ s b. below (samplesFrom + sampleLength * s + valvesIn) (omega arith)))
-
-  drops-append : majorLength ≤ length l → dropsZero (l ++ q) ≡ dropsZero l
-  unfolding dropsZero
-  drops-append h = every-same stringCount (dropZero (l ++ q)) (dropZero l) (λ s b. below (dropsFrom + s) (omega arith))
+  reserved-append h = below pathAt (omega arith)
 
   small : (i : ℕ) → i + 1 < length l → leb (two (l ++ q) i) mostQuantity ≡ leb (two l i) mostQuantity
   small i h = ap (λ (x : ℕ). leb x mostQuantity) (two-append i h)
@@ -82,9 +75,7 @@ module _ (l q : List ℕ) where
   unfolding goodMajor
   major-append h =
       ap₂ (λ (x y : Bool). x && y)
-      (ap₂ (λ (x y : Bool). x && y)
       (ap₂ (λ (x y : Bool). x && y) (sum-append majorLength (omega arith) h) (reserved-append (omega arith)))
-      (drops-append h))
       (quantities-append h)
 
   pub good-append : (k : Kind) → lengthOf k ≤ length l → goodKind k (l ++ q) ≡ goodKind k l

@@ -116,8 +116,8 @@ outbox-needed = refl
 
 -- ---- the map
 
-pub masks-length : masksLength ≡ 16
+pub masks-length : masksLength ≡ 32
 masks-length = refl
 
-pub map-length : mapLength ≡ 64
+pub map-length : mapLength ≡ 128
 map-length = refl

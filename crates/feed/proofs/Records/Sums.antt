@@ -11,7 +11,7 @@ use lib.Seq.{take-suc}
 use borrow.Author.Tests.{eq-eqb, ne-eqb}
 use Rattle.feed.specs.Size.{sumSpan, minorSummed, majorSummed, majorLength}
 use Rattle.feed.specs.Bytes.{two}
-use Rattle.feed.specs.Format.{total, sumOf, sumRight, reservedZero, dropsZero, quantitiesRight, goodMinor, goodMajor}
+use Rattle.feed.specs.Format.{total, sumOf, sumRight, reservedZero, quantitiesRight, goodMinor, goodMajor}
 
 pub total-snoc : (l : List ℕ) (x : ℕ) → total (l ++ (x ∷ [])) ≡ total l + x
 unfolding total
@@ -34,7 +34,7 @@ module _ (l : List ℕ) (g s : ℕ) where
   minor-bad e f h = simp (ne-eqb _ _ (λ q. h (e ∙ q ∙ sym f)))
 
   pub major-sum : g ≡ two l majorSummed → s ≡ sumOf (take majorSummed l) → g ≡ s
-      → (reservedZero l && dropsZero l && quantitiesRight l) ≡ goodMajor l
+      → (reservedZero l && quantitiesRight l) ≡ goodMajor l
   unfolding goodMajor
   major-sum e f h = simp (eq-eqb _ _ (sym e ∙ h ∙ f))
 
@@ -47,6 +47,6 @@ pub major-reserved : (l : List ℕ) → reservedZero l ≡ false → false ≡ g
 unfolding goodMajor
 major-reserved l e = rw e (neither (sumRight majorLength l))
   where
-    neither : (a : Bool) → false ≡ (a && false && dropsZero l && quantitiesRight l)
+    neither : (a : Bool) → false ≡ (a && false && quantitiesRight l)
     neither true = refl
     neither false = refl

@@ -9,7 +9,7 @@ use lib.ListN.{getD}
 use Rattle.bits.specs.Bit.{bit}
 use Rattle.bits.proofs.Yes.{not-both, not-yes, and-left, and-right}
 use Rattle.bits.proofs.Bits.{bit-none}
-use Rattle.cycle.specs.Size.{stringCount}
+use Rattle.cycle.specs.Size.{stringCount, manifoldCount}
 use Rattle.cycle.specs.Map.{masksOf, inMask, FitMap, refused}
 use Rattle.cycle.specs.declared.answer.Answer.{Answer}
 use Rattle.cycle.specs.declared.answer.Answer.the-variants.{BothWays}
@@ -34,8 +34,9 @@ both-ways-missed masks c cs e =
 
 module _ (masks : List Masks) where
   -- what a jet hears of a record that names it both ways, its bytes say
-  heard-said : (s i j : ℕ) → s < 4 → i < 4 → inMask (masksOf masks s) i j → (r : List ℕ) (b : Bool) → eqb (getD r 1 0) 0x4A ≡ b
-      → bit j (cond b (four r (569 + 8 * s)) 0) ≡ true → bit j (cond b (four r (573 + 8 * s)) 0) ≡ true → BothWaysSaid masks r
+  heard-said : (s i j : ℕ) → s < stringCount → i < manifoldCount → inMask (masksOf masks s) i j → (r : List ℕ) (b : Bool)
+      → eqb (getD r 1 0) 0x4A ≡ b → bit j (cond b (four r (569 + 8 * s)) 0) ≡ true → bit j (cond b (four r (573 + 8 * s)) 0) ≡ true
+      → BothWaysSaid masks r
   heard-said s i j l k stands r true e inhibit reenable = record {
     mark = eqb-true (getD r 1 0) 0x4A e;
     string = s;
@@ -54,7 +55,7 @@ module _ (masks : List Masks) where
     one-way-taken = taken-so masks fit accepted (λ t. BothWaysSaid masks (t .bytes) → ⊥)
         (λ h room r same taken said. taken .4 (subst (λ (x : List Masks). BothWaysSaid x r) (sym same) said))
 
-    pub jet-one-way : (s i j : ℕ) → s < 4 → i < 4 → inMask (masksOf masks s) i j → (cs : List Made)
+    pub jet-one-way : (s i j : ℕ) → s < stringCount → i < manifoldCount → inMask (masksOf masks s) i j → (cs : List Made)
         → Each (λ t. ((jetHeard s i j t) .inhibit && (jetHeard s i j t) .reenable) ≡ false) (takenRecords masks cs)
     jet-one-way s i j l k stands cs = each-so one (takenRecords masks cs) (one-way-taken cs)
       where

@@ -4,14 +4,13 @@ use mathlib.Core.Path.{_≡_, refl, sym, ap, _∙_}
 use mathlib.Core.Bool.{Bool, true, false, _&&_}
 use mathlib.Core.List.{List, _∷_, _++_}
 use mathlib.Core.Logic.{⊎-elim}
-use Prim.Native.Nat.{ℕ, zero, suc, _+_, _*_, _%_, _^_, _<_, _≤_}
-use native.Mathlib.Nat.{mod-eq-of-lt}
+use Prim.Native.Nat.{ℕ, zero, suc, _+_, _*_, _^_, _<_}
 use native.Mathlib.Omega.{arith}
 use lib.Bits.{and-le-l, or-lt}
 use lib.ListN.{length, getD, take, drop}
 use lib.Seq.{take-at}
 use Rattle.bits.specs.Bit.{bit, wordBits, any}
-use Rattle.bits.proofs.Bits.{bit-and, bit-mod, bit-past}
+use Rattle.bits.proofs.Bits.{bit-and, bit-mod}
 use Rattle.bits.proofs.Yes.{not-both}
 use Rattle.bits.proofs.Words.{any-same}
 use Rattle.cycle.specs.Size.{stringCount, jetCount, manifoldCount, moduleCount}
@@ -28,7 +27,7 @@ use Rattle.cycle.specs.declared.hall.Hall.{Hall}
 use Rattle.cycle.specs.declared.jet.JetState.{JetState}
 use Rattle.cycle.specs.declared.map.Masks.{Masks}
 use Rattle.cycle.proofs.Maps.{mapped-jet, mapped-found, in-word}
-use Rattle.feed.specs.Size.{wordLength, stringsFrom, stringPart, oxidizerFrom, reportLength, outboxNeeded}
+use Rattle.feed.specs.Size.{stringsFrom, stringPart, oxidizerFrom, reportLength, outboxNeeded}
 use Rattle.feed.specs.Bytes.{four}
 use Rattle.feed.specs.Report.{headOf, reportedFail, reportOf}
 use Rattle.feed.specs.Call.{Result, called, call}
@@ -84,12 +83,6 @@ module _ (masks : List Masks) (h : Hall) (ts : List Heard) (kept : Kept masks h 
       absurd (free (x .0) (x .1) (rw (sym (kept .run .told .map)) (x .2)))
   mapped-no s j free false e = refl
 
-  no-manifold : (s i : ℕ) → s < stringCount → manifoldCount ≤ i → bit i (getD report (stringsFrom + stringPart * s + wordLength) 0) ≡ false
-  no-manifold s i l b =
-      let fits = kept .run .closeFits s l in
-      let byte : (stringOf h s) .close % 256 ≡ (stringOf h s) .close = mod-eq-of-lt (omega arith) in
-      ap (bit i) (close-at a h s l ∙ byte) ∙ bit-past manifoldCount i ((stringOf h s) .close) fits b
-
   bank-same : (m : ℕ) → m < moduleCount → getD (h .banks) m noBank ≡ bankHeard m ts
   bank-same m l = kept .run .told .banks m l ∙ bank-carried m l (kept .carry)
 
@@ -124,7 +117,6 @@ module _ (masks : List Masks) (h : Hall) (ts : List Heard) (kept : Kept masks h 
     noMask = λ s j l free.
         fail-bit s j l ∙ ap (λ (b : Bool). b && bit j ((stringOf h s) .standing .fail)) (mapped-no s j free (bit j (jets s)) refl);
     close = λ s i l below. ap (bit i) (close-at a h s l) ∙ bit-mod 8 i ((stringOf h s) .close) (omega arith) ∙ asked-same s i l below;
-    noManifold = no-manifold;
     unbalanced = λ m l.
         ap (bit m) (balance-at a h ∙ balance-byte (h .banks))
         ∙ unbalanced-bit (h .banks) m l

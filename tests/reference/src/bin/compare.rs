@@ -3,16 +3,18 @@
 
 use reference::counted::Counted;
 use reference::feed::{masks_bytes, run, MASKS_LENGTH};
-use reference::foreign::{self, Cases};
+use reference::foreign;
+use reference::foreign_cases::ForeignCases;
 use reference::generate::input;
 use reference::hall::{BOTH_WAYS, NOTHING_SETTLED};
+use reference::maps::{each_shared_jet, refused_masks};
+use reference::old_input::old_input;
 use reference::process::{cut, run_file, run_pieces};
 use reference::random::Random;
 use reference::report::REPORT_LENGTH;
 use reference::score::{Program, Score};
 use reference::script;
 use reference::tally::Tally;
-use reference::world::refused_masks;
 use std::process::ExitCode;
 use std::time::{Duration, Instant};
 
@@ -104,11 +106,16 @@ fn feeds(watches: &mut [Program], number: u64, total: u64, score: &mut Score) ->
     (tally, counted)
 }
 
-/// Noise, empty input, short and refused masks.
+/// Noise, empty input, short and refused masks, and maps of 64 bytes.
 fn bad_inputs(watches: &mut [Program], score: &mut Score) -> usize {
     let mut inputs: Vec<(String, Vec<u8>)> = Vec::new();
-    for length in [0, 1, 2, 16, 62, 63, 64] {
+    for length in [0, 1, 2, 16, 63, 64, 65, MASKS_LENGTH - 1, MASKS_LENGTH] {
         inputs.push((format!("{length} bytes of masks"), vec![0; length]));
+    }
+    let (feed, _) = input(0, 600);
+    for (number, masks) in each_shared_jet().iter().enumerate() {
+        let refused = [&masks_bytes(masks)[..], &feed[MASKS_LENGTH..]].concat();
+        inputs.push((format!("a jet on two manifolds, pair {number}"), refused));
     }
     for seed in 0..NOISES {
         let mut random = Random(1_000_000 + seed);
@@ -119,6 +126,10 @@ fn bad_inputs(watches: &mut [Program], score: &mut Score) -> usize {
         let (mut refused, _) = input(seed, 3_000);
         refused[..MASKS_LENGTH].copy_from_slice(&masks_bytes(&refused_masks(&mut random)));
         inputs.push((format!("refused masks of seed {seed}"), refused));
+        for is_accepted in [true, false] {
+            let name = format!("map of 64 bytes, accepted {is_accepted}, of seed {seed}");
+            inputs.push((name, old_input(seed, is_accepted)));
+        }
     }
     for (name, input) in &inputs {
         let reports = reports(input);
@@ -145,6 +156,7 @@ fn scripts(calls: &mut Program, score: &mut Score) -> String {
         }
         plays(calls, score, &format!("calls of seed {seed}"), input);
     }
+    plays(calls, score, "starts over a jet on two manifolds", script::starts(&each_shared_jet()));
     let all: u64 = answers.iter().sum();
     format!(
         "{CALL_INPUTS} inputs of {starts} scripts, {all} calls, answers 0 to 5 {:?}, 7 {}, \
@@ -157,8 +169,8 @@ fn scripts(calls: &mut Program, score: &mut Score) -> String {
 
 /// Halls that no run reaches, many to an input. Where one differs, its input is tried hall by hall, to
 /// name it.
-fn foreign_halls(calls: &mut Program, number: u64, score: &mut Score) -> (Cases, Counted) {
-    let (mut cases, mut counted) = (Cases::default(), Counted::of_halls());
+fn foreign_halls(calls: &mut Program, number: u64, score: &mut Score) -> (ForeignCases, Counted) {
+    let (mut cases, mut counted) = (ForeignCases::default(), Counted::of_halls());
     let mut begin = 0;
     while begin < number {
         let end = number.min(begin + HALLS_AT_ONCE);

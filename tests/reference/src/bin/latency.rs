@@ -1,9 +1,10 @@
 //! `latency WATCH [RECORDS]`: demands that each report is out before the next byte is sent, and
 //! that the program ends when it should and does not grow over a long run of RECORDS records.
 
-use reference::feed::{masks_bytes, settle_piece};
+use reference::feed::{masks_bytes, settle_piece, MASKS_LENGTH};
 use reference::generate::Night;
 use reference::hall::Masks;
+use reference::maps::masks_of;
 use reference::process::Running;
 use reference::random::Random;
 use reference::record::{Record, MAJOR, MARK};
@@ -17,7 +18,8 @@ use std::time::Duration;
 
 const LIMIT: Duration = Duration::from_secs(5);
 const WHILE: Duration = Duration::from_millis(60);
-const MASKS: Masks = [[0x0F, 0xF0, 0xFF00, 0x8000_0000]; 4];
+const MASKS: Masks =
+    [masks_of(&[0x0F, 0xF0, 0xFF00, 0x8000_0000, 0, 0x0003_0000, 0x0070_0000, 0x4000_0000]); 4];
 const LOOKS: u64 = 40;
 const MOST_KILOBYTES: u64 = 6_144;
 /// The system's own count may be off by some pages for each processor.
@@ -149,7 +151,7 @@ fn close_order(pair: &mut Pair) -> Outcome {
 
 fn masks_with_record(watch: &str) -> Outcome {
     let masks = masks_bytes(&MASKS);
-    for apart in [0, 1, 63] {
+    for apart in [0, 1, 64, MASKS_LENGTH - 1] {
         let mut pair = Pair::start(watch, &masks[..apart])?;
         pair.running.stays_silent(WHILE)?;
         pair.send(&[&masks[apart..], &quiet(1)].concat())?;

@@ -2,15 +2,35 @@
 #![allow(dead_code)] // no test file needs all of it
 
 use reference::hall::Masks;
+use reference::jet::{ALL_MANIFOLDS, MANIFOLDS};
+use reference::maps::masks_of;
 use reference::record::{Record, StringMajor, StringWords};
 use reference::report::Report;
 use reference::Monitor;
 
+pub const NO_JETS: [u32; MANIFOLDS] = [0; MANIFOLDS];
 /// String 0, manifold 0 = 0000000F, others zero.
-pub const MAP: Masks = [[0x0F, 0, 0, 0], [0; 4], [0; 4], [0; 4]];
+pub const MAP: Masks = [masks_of(&[0x0F]), NO_JETS, NO_JETS, NO_JETS];
 /// Two manifolds in every string.
-pub const WIDE_MAP: Masks = [[0x0F, 0xF0, 0, 0]; 4];
+pub const WIDE_MAP: Masks = [masks_of(&[0x0F, 0xF0]); 4];
+/// Four jets on each manifold of each string, in order.
+pub const FULL_MAP: Masks = [EVEN; 4];
+const EVEN: [u32; MANIFOLDS] = masks_of(&[
+    0x0000_000F,
+    0x0000_00F0,
+    0x0000_0F00,
+    0x0000_F000,
+    0x000F_0000,
+    0x00F0_0000,
+    0x0F00_0000,
+    0xF000_0000,
+]);
+/// One jet of each manifold of that map.
+pub const ONE_OF_EACH: u32 = 0x1111_1111;
+/// The byte in which the bits of all manifolds are set.
+pub const ALL: u8 = ALL_MANIFOLDS as u8;
 
+#[derive(Clone)]
 pub struct Post {
     pub monitor: Monitor,
 }

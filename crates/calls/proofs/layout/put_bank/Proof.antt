@@ -6,7 +6,7 @@ use lib.Seq.{sets, length-sets}
 use Rattle.cycle.specs.declared.banks.Bank.{Bank}
 use Rattle.feed.specs.Bytes.{inTwo}
 use Rattle.feed.proofs.Reports.Written.{put-part, put-last}
-use Rattle.calls.specs.Layout.{inFlag, inBank}
+use Rattle.calls.specs.Layout.{bankLength, inFlag, inBank}
 use borrow.Author.Needs.{needs}
 use Rattle.calls.proofs.layout.put_bank.Statement.{statement}
 use Rattle.calls.proofs.layout.put_bank.Tie as tie
@@ -41,7 +41,7 @@ returns c =
     let z = length-sets (a .b .now) 0 flags in
     put-last (a .b .now) flags y 2 (search needs)
     ∙ laid u o y (a .x) (at-flag2 .before .flag .ensures) (at-flag2 .flag2 .ensures)
-    (put-part (inTwo (a .x .lesser)) (sets (a .b .now) 0 flags) y 2 4 refl (search needs) (c .before .before .put-two .ensures))
+    (put-part (inTwo (a .x .lesser)) (sets (a .b .now) 0 flags) y 2 bankLength refl (search needs) (c .before .before .put-two .ensures))
 
 pub put-bank-spec : {M : Type 1} → statement M
 put-bank-spec =

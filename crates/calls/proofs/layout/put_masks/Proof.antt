@@ -5,6 +5,7 @@ use Prim.Native.Nat.{ℕ}
 use native.Mathlib.Omega.{arith}
 use lib.ListN.{length}
 use Rattle.cycle.specs.Size.{manifoldCount}
+use Rattle.feed.specs.Size.{masksLength}
 use Rattle.calls.specs.Layout.{inWords}
 use Rattle.calls.proofs.layout.put_masks.Statement.{statement}
 use Rattle.calls.proofs.layout.put_masks.Tie as tie
@@ -13,7 +14,7 @@ put-words-requires : tie.Need-put-words-requires
 put-words-requires c κs =
     let a = c .before .before .before .before .args in
     let e : length (a .m .words) ≡ manifoldCount = search needs in
-    let f : length (a .b .now) ≡ 16 = search needs in
+    let f : length (a .b .now) ≡ masksLength = search needs in
     (omega (arith, e, f), omega (arith, f))
 
 returns : tie.Need-returns

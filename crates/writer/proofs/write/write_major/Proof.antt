@@ -1,6 +1,6 @@
 -- `writer::write::write_major` meets its contract. Assumes nothing.
 use mathlib.Core.Path.{_≡_, sym, ap, ap₂, _∙_}
-use mathlib.Core.Bool.{Bool, _&&_}
+use mathlib.Core.Bool.{Bool}
 use mathlib.Core.List.{List, _++_}
 use mathlib.Core.Logic.{⊎-elim}
 use Prim.Native.Nat.{ℕ}
@@ -22,11 +22,10 @@ part-put-major-end : tie.Need-part-put-major-end
 part-put-major-end c =
     let judged = c .before .before in
     let weighed = judged .before in
-    let emptied = weighed .before in
-    let asked = emptied .before in
-    let out = asked .before .before .before .before .before .args .out .now in
+    let asked = weighed .before in
+    let out = asked .before .before .before .before .args .out .now in
     leb-true majorLength (length out)
-    (all-pass (asked .reserved-zero .result && emptied .drops-zero .result) (weighed .quantities-right .result)
+    (all-pass (asked .reserved-zero .result) (weighed .quantities-right .result)
     (leb majorLength (length out))
     (sym (c .enum-told .given .1) ∙ judged .checked .ensures) .2)
 
@@ -36,15 +35,14 @@ returns c =
     let told = put .before .before in
     let judged = told .before .before in
     let weighed = judged .before in
-    let emptied = weighed .before in
-    let asked = emptied .before in
-    let a = asked .before .before .before .before .before .args in
+    let asked = weighed .before in
+    let a = asked .before .before .before .before .args in
     let out = a .out .now in
     let r = major (a .values) in
     answered r out (judged .checked .result) (put .put-major .last .0 ++ drop majorLength out)
     (judged .checked .ensures
     ∙ ap₂ (λ (b d : Bool). checked b d (leb majorLength (length out)))
-    (ap₂ (λ (x y : Bool). x && y) (asked .reserved-zero .ensures) (emptied .drops-zero .ensures)) (weighed .quantities-right .ensures))
+    (asked .reserved-zero .ensures) (weighed .quantities-right .ensures))
     (ap (λ (t : List ℕ). t ++ drop majorLength out) (put .put-major .ensures)
     ∙ ap (λ (b : Writing). outboxBy b r out) (sym (told .enum-told .given .1)))
 
@@ -52,9 +50,8 @@ returns-2 : tie.Need-returns-2
 returns-2 c =
     let judged = c .before in
     let weighed = judged .before in
-    let emptied = weighed .before in
-    let asked = emptied .before in
-    let a = asked .before .before .before .before .before .args in
+    let asked = weighed .before in
+    let a = asked .before .before .before .before .args in
     let out = a .out .now in
     let r = major (a .values) in
     let refused : judged .checked .result ≡ Written → ⊥ =
@@ -62,14 +59,13 @@ returns-2 c =
     answered r out (judged .checked .result) out
     (judged .checked .ensures
     ∙ ap₂ (λ (b d : Bool). checked b d (leb majorLength (length out)))
-    (ap₂ (λ (x y : Bool). x && y) (asked .reserved-zero .ensures) (emptied .drops-zero .ensures)) (weighed .quantities-right .ensures))
+    (asked .reserved-zero .ensures) (weighed .quantities-right .ensures))
     (left-alone (judged .checked .result) r out refused)
 
 pub write-major-spec : {M : Type 1} → statement M
 write-major-spec =
     tie.close
     (tie.spec
-    (λ c κs. search needs)
     (λ c κs. search needs)
     (λ c κs. search needs)
     (λ c κs. search needs)
