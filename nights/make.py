@@ -175,6 +175,33 @@ def old_map(begin=map_bytes):
     return b"".join(feed)
 
 
+def reenable_too_early(without=()):
+    """String 3, manifold 2: jet 10 fails off, the valve is closed, and re-enables come before it is open, or just as it closes. Jet 21 is
+    on manifold 5, which stays open. Without: cycles whose re-enables of jets 8 to 11 are left out."""
+    feed = [map_bytes(HALL)]
+    asked = {
+        50: (0, only(8) | only(10) | only(21)),
+        75: (only(11), 0),
+        100: (0, only(10)),
+        125: (0, only(11)),
+        150: (0, only(8)),
+        175: (0, only(9)),
+    }
+    behind = 0xF << 8
+    for cycle in range(1, 201):
+        commanded = 0
+        if 10 <= cycle <= 12:
+            commanded = only(10) | only(21)
+        if 140 <= cycle <= 142:
+            commanded = only(9)
+        valves = ALL_OPEN - (only(2) if 30 <= cycle < 90 or 150 <= cycle < 175 else 0)
+        inhibit, reenable = asked.get(cycle, (0, 0))
+        if cycle in without:
+            reenable &= ~behind
+        feed.append(record(cycle, strings={3: (commanded, 0, 0, valves)}, requests={3: (inhibit, reenable)}))
+    return b"".join(feed)
+
+
 def with_zero_masks(old):
     """The map of 128 bytes for a table of four manifolds: sixteen bytes of 00 behind each string's sixteen."""
     return map_bytes([masks_of(*string) for string in old])
@@ -195,6 +222,7 @@ NIGHTS = {
     "7-both-ways": both_ways,
     "8-repair": repair,
     "9-old-map": old_map,
+    "10-reenable-too-early": reenable_too_early,
 }
 
 

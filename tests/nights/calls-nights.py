@@ -1,7 +1,7 @@
 #!/usr/bin/env python3
 """calls-nights.py > crates/calls/stdin: the nights to try of document 01 that are run and not proved, as scripts for the program `calls`,
-those of a jet named both ways, of close bits dropped and of eight manifolds (document 02, orders 4, 6 and 7) that a call alone can show,
-and three that hand in whole halls which no run reaches.
+those of a jet named both ways, of close bits dropped, of eight manifolds and of re-enables behind closed valves (document 02, orders 4, 6,
+7 and 8) that a call alone can show, and four that hand in whole halls which no run reaches.
 
 A script is its kind (0: a start over the hall's masks, with its n; 1: the hall as it stands), a hall (612 bytes, crates/calls/src/layout.rt
 has its places), the claimed held count (2), the store (619), the number of calls (2), and for each call the piece's length (2), the
@@ -19,6 +19,8 @@ LAST = 4294967295
 MAP = map_bytes([masks_of(0x0000000F), masks_of(), masks_of(), masks_of()])
 # string 0, manifolds 0 and 1 share jet 3
 REFUSED = map_bytes([masks_of(0x0000000F, 0x00000008), masks_of(), masks_of(), masks_of()])
+# of a string whose manifold 0 has its valve closed
+CLOSED = (0, 0, 0, ALL_OPEN - 1)
 # a jet on each manifold of each string
 ONE_OF_EACH = map_bytes([[1 << i for i in range(MANIFOLDS)]] * STRINGS)
 
@@ -178,6 +180,61 @@ nights = [
             (records.major(125, drops={0: 1}), 34),
         ],
         whole=hall(n=49, strings={0: string(standing(1), standing(1), on=(3, 1), recheck=1, close=1)}),
+    ),
+    # Behind the closed valve of manifold 0 re-enables are ignored: jet 1 stays inhibited, jet 3 failed. First the same record names jet 2
+    # both ways, and is refused. As the valve opens, the saved jets 0 and 2 are good, and jet 3, asked for in that record, is re-enabled.
+    script(
+        [
+            (records.major(50, strings={0: CLOSED}, requests={0: (0x4, 0xF)}), 34),
+            (records.major(50, strings={0: CLOSED}, requests={0: (0x0, 0xF)}), 34),
+            (records.minor(51, strings={0: CLOSED}), 34),
+            (records.major(75, requests={0: (0x0, 0x8)}), 34),
+        ],
+        whole=hall(n=49, strings={0: string(*[standing(0xF, ALL_OPEN - 1, (0x5,))] * 2, inhibit=0x2)}),
+    ),
+    # The valve after this record's step 4 decides. In string 0 manifold 0 closes and the others are open: all of its jets but 0 are
+    # re-enabled, and the re-enable of jet 0 that was in force lapses. In string 1 manifold 7 opens: all are re-enabled. In string 2 the
+    # path is back, with all valves closed in the good copy, and 0 to 3 open now. In string 3 all are closed, and the inhibits are done.
+    script(
+        [
+            (
+                records.major(
+                    25,
+                    strings={0: CLOSED, 2: (0, 0, 0, 0x0F), 3: (0, 0, 0, 0)},
+                    requests={0: (0, 0xFF), 1: (0, 0xFF), 2: (0, 0xFF), 3: (0x0F, 0xF0)},
+                ),
+                34,
+            ),
+            (records.minor(26, strings={0: CLOSED, 2: (0, 0, 0, 0x0F), 3: (0, 0, 0, 0)}), 34),
+        ],
+        whole=hall(
+            ONE_OF_EACH,
+            n=24,
+            strings={
+                0: string(standing(0xF0), inhibit=0xF0, reenable=0x01),
+                1: string(standing(0xFF, 0x7F)),
+                2: string(good=standing(0xFF, 0), lost=1),
+                3: string(standing(0xFF, 0, [1 << i for i in range(MANIFOLDS)])),
+            },
+        ),
+    ),
+    # Behind a closed valve jet 0 is bad for the third time: its re-enable is ignored, and the close bit comes.
+    script(
+        [(records.major(75, strings={0: (0, 0, 1, ALL_OPEN - 1)}, requests={0: (0, 1)}), 34)],
+        whole=hall(n=74, strings={0: string(*[standing(0xF, ALL_OPEN - 1, (0xE,))] * 2, on=(1, 1), recheck=1)}),
+    ),
+    # Handed in behind a closed valve are jet 0, good, jet 1, with a re-enable in force, and jet 4, on manifold 2 too, whose valve is open:
+    # re-enables of all three are ignored, and the one in force stays in force. Jet 5, on two manifolds with open valves, is re-enabled.
+    script(
+        [
+            (records.major(25, strings={0: CLOSED}, requests={0: (0, 0x33)}), 34),
+            (records.minor(26, strings={0: CLOSED}), 34),
+        ],
+        whole=hall(
+            map_bytes([masks_of(0x1F, 0x20, 0x30), masks_of(), masks_of(), masks_of()]),
+            n=24,
+            strings={0: string(standing(0x3E, ALL_OPEN - 1), reenable=0x02)},
+        ),
     ),
     # A hall handed in whose manifold 0 is remembered closed and has a saved set beyond its mask: all of it leaves the fail word, and the
     # set stays. Jets 16 and 17 are in no mask: the report does not show them, the hall does.

@@ -29,6 +29,13 @@ def night():
             strings[1] = (0x0200, 0, 0, ALL_OPEN)  # jet 9 of string 1 fails off at 9
         if 45 <= cycle < 65:
             strings[1] = (0, 0, 0, ALL_OPEN - 0x80)  # manifold 7's valve is closed too, and opened again: jet 9 stays failed
+        if cycle == 50:
+            # re-enables of jets 0, 2 and 9 are ignored behind these closed valves, that of jet 4 is done; the inhibit of jet 8 is heard
+            requests = {0: (0, 0x15), 1: (0x0100, 0x0200)}
+            # first a jet behind one of them is named both ways: refused, and sent again
+            out.append(record(cycle, path, strings, requests={0: (0x08, 0x08)}))
+        if cycle == 75:
+            requests[1] = (0, 0x0100)  # the valve is open: now jet 8 is re-enabled
         if 85 <= cycle < 95:
             strings[2] = (0, 0, 0, 0x0F if cycle < 90 else 0)  # the upper four valves of string 2 close, then all
         if cycle in (100, 125, 150):
@@ -56,7 +63,12 @@ def night():
             banks[1] = (517, 500)  # module 1 out of balance
             # first named both ways: refused, and sent again
             out.append(record(cycle, path, strings, temps, {0: (0x04, 0x04)}, banks, drops))
+        if 250 <= cycle < 275:
+            strings[2] = (0, 0, 0, ALL_OPEN - 0x60)  # manifolds 5 and 6 of string 2 close
+        if cycle == 250:
+            requests[2] = (0, 0x11100000)  # in the same record re-enables of jets 20 and 24 are ignored, that of jet 28 is done
         if cycle == 275:
+            requests[2] = (0, 0x00100000)  # they open, and in the same record jet 20, failed before, is re-enabled
             out.append(record(cycle, path=0x10, drops={2: 0x10}))  # first with a reserved path bit: not read, and sent again
         whole = record(cycle, path, strings, temps, requests, banks, drops)
         if cycle == 30:

@@ -101,9 +101,11 @@ requests = [
     request(records.major(25, strings=valves(3, 0xF0), banks={0: (1001, 500)}, drops={2: 0xF0}), MAJOR - 1),
     request(records.major(25, strings=valves(3, 0xF0), drops={2: 0xF0}), MAJOR - 1),
     request(large(2, 500, 1001), MAJOR - 1),
-    # What a monitor may refuse is written: kinds that do not fit the cycle, jets named both ways, cold injectors, closed valves.
+    # What a monitor may refuse or ignore is written: kinds that do not fit the cycle, jets named both ways, cold injectors, closed valves,
+    # re-enables behind them.
     request(records.minor(25, strings=valves(2, 0))),
     request(records.major(1, temps={(0, 0): (0, 63), (3, 31): (63, 0x8000)}, requests={1: (0x00000006, 0x00000003)})),
+    request(records.major(25, strings=valves(3, 0), requests={3: (0, 0xFFFFFFFF)})),
     # The last request is cut off and gets nothing.
     request(first)[:-1],
 ]

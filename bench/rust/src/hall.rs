@@ -267,13 +267,19 @@ impl JetString {
         (self.mapped & word(record, at), self.mapped & word(record, at + 4))
     }
 
-    /// Step 5. No jet is named both ways.
+    /// Step 5. No jet is named both ways; behind a closed valve none is re-enabled.
     fn ask(&mut self, record: &MajorRecord, s: usize) {
         let (inhibit, reenable) = self.requests(record, s);
+        let reenable = reenable & !self.behind_closed_valves();
         self.inhibit = (self.inhibit | inhibit) & !reenable;
         self.reenable = (self.reenable | reenable) & !inhibit;
         self.standing.fail = (self.standing.fail | inhibit) & !reenable;
         self.close &= !record[DROPS + s];
+    }
+
+    fn behind_closed_valves(&self) -> u32 {
+        let closed = |i: &usize| self.standing.valves >> i & 1 == 0;
+        (0..MANIFOLDS).filter(closed).fold(0, |jets, i| jets | self.masks[i])
     }
 
     /// Steps 6 to 8.

@@ -6,7 +6,7 @@ use Prim.Native.Nat.{ℕ}
 use Rattle.cycle.specs.declared.jet.JetOn.{JetOn}
 use Rattle.cycle.specs.declared.jet.JetState.{JetState}
 use Rattle.cycle.specs.Numbers.{isMajor, missedCycle, missedMajor}
-use Rattle.cycle.specs.Jets.{JetRecord, noOn, pathLost, recovered, gapped, offFailure, valveMoved, remembered, requested}
+use Rattle.cycle.specs.Jets.{JetRecord, noOn, pathLost, recovered, gapped, offFailure, valveMoved, remembered, reenabled, requested}
 use Rattle.cycle.specs.Jets.{isBad, asks, onFailure, kept, minorSteps, afterRequests, majorSteps, cycle, asksAt, reached, run}
 
 -- ---- which steps a record takes
@@ -87,7 +87,11 @@ slots-else old r s l m = minor-on old r s ∙ rw (m, recovered-otherwise s l)
 requested-keeps : (i e : Bool) (s : JetState) → (requested i e s .on ≡ s .on) × (requested i e s .lost ≡ s .lost)
 unfolding requested
 requested-keeps true e s = (refl, refl)
-requested-keeps false true s = (refl, refl)
+requested-keeps false true s = by (s .standing .valve)
+  where
+    by : (opened : Bool) → ((cond opened (reenabled s) s) .on ≡ s .on) × ((cond opened (reenabled s) s) .lost ≡ s .lost)
+    by true = (refl, refl)
+    by false = (refl, refl)
 requested-keeps false false s = (refl, refl)
 
 requests-keep-slots : (old : ℕ) (r : JetRecord) (s : JetState) → afterRequests old r s .on ≡ minorSteps old r s .on

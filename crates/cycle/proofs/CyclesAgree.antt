@@ -67,7 +67,7 @@ module _ (m i j : ℕ) (masks : List ℕ) (x : Sample) (q : Requests) (t : Tempe
       ∙ ap jets.kept
       (on-failure-agrees i j bad c
       ∙ ap₂ jets.onFailure (bad-agrees m i j masks below stands x q t n path inWord)
-      (rechecked-agrees i j m masks bad r ∙ requests-heard m i j masks below stands q a
+      (rechecked-agrees i j m masks bad r ∙ requests-heard m i j masks below stands d q a
       ∙ ap (jets.requested (bit j (q .inhibit)) (bit j (q .reenable))) minor-steps-agree))
 
 -- ---- the close bits
@@ -151,6 +151,6 @@ major-steps-close m i masks x q t old n path s d below p =
         → ((bit j mask && bit j recheck) && bit j again) ≡ (bit j mask && asks j)
     by j l true e =
         rw e
-        (asked m i j masks below e x q t n path l a
+        (asked m i j masks below e x q t n path l d a
         ∙ ap (asksFrom j) (minor-steps-agree m i j masks x q t old n path s d below e p))
     by j l false e = rw e

@@ -1,12 +1,12 @@
 -- Arrays whose elements are replaced one after the other: a loop's turn, and what stands at each place in the end. Assumes nothing.
-use mathlib.Core.Path.{_≡_, refl, ap, _∙_}
+use mathlib.Core.Path.{_≡_, refl, sym, ap, _∙_}
 use mathlib.Core.List.{List, [], _∷_}
 use mathlib.Core.Logic.{⊎-elim}
 use Prim.Native.Nat.{ℕ, zero, suc, _≤_, _<_}
 use native.Mathlib.Nat.{not-suc-le-zero, le-of-suc-le-suc, eq-or-lt-of-le}
 use native.Mathlib.Omega.{arith}
 use lib.ListN.{length, getD, set, length-set}
-use lib.Seq.{getD-set-same, getD-set-other}
+use lib.Seq.{getD-set-same, getD-set-other, ext-getD}
 use Rattle.cycle.specs.Each.{each}
 
 module _ {A : Type 0} (f : ℕ → A → A) (d : A) (l : List A) where
@@ -53,6 +53,21 @@ module _ {A : Type 0} (f : ℕ → A → A) (d : A) (l : List A) where
       by (x ∷ y ∷ z ∷ []) q = absurd (omega arith)
       by (x ∷ y ∷ z ∷ w ∷ []) q = refl
       by (x ∷ y ∷ z ∷ w ∷ v ∷ k) q = absurd (omega arith)
+
+-- one rule after the other is both at once
+pub twice-each : {A : Type 0} (f g : ℕ → A → A) (d : A) (l : List A) (n : ℕ) → length l ≡ n
+    → each n g d (each n f d l) ≡ each n (λ i x. g i (f i x)) d l
+twice-each {A} f g d l n long =
+    let both : ℕ → A → A = λ i x. g i (f i x) in
+    let once : List A = each n f d l in
+    let length-once : length once ≡ n = each-length f d l n ∙ long in
+    let length-twice : length (each n g d once) ≡ n = each-length g d once n ∙ length-once in
+    ext-getD d (each n g d once) (each n both d l) (length-twice ∙ sym (each-length both d l n ∙ long))
+    (λ i b.
+    let below : i < n = omega (arith, length-twice, b) in
+    each-at g d once n i below (omega (arith, length-once))
+    ∙ ap (g i) (each-at f d l n i below (omega (arith, long)))
+    ∙ sym (each-at both d l n i below (omega (arith, long))))
 
 -- two rules that agree below n do the same
 pub each-same : {A : Type 0} (f g : ℕ → A → A) (d : A) (l : List A) (n : ℕ) → ((i : ℕ) (x : A) → i < n → f i x ≡ g i x)

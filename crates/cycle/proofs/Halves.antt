@@ -1,8 +1,8 @@
--- Steps 1 to 4 in two parts are steps 1 to 4, for one string and for four; and the saved sets that come back are the kept ones, or their
+-- Steps 1 to 4 in two parts are steps 1 to 4, of one string; and the saved sets that come back are the kept ones, or their
 -- own. Assumes nothing.
 use mathlib.Core.Path.{_≡_, refl, sym, ap, _∙_}
 use mathlib.Core.Bool.{Bool, true, false, cond}
-use mathlib.Core.List.{List, [], _∷_}
+use mathlib.Core.List.{List}
 use Prim.Native.Nat.{ℕ, _-_, _^_, _<_}
 use native.Mathlib.Omega.{arith}
 use lib.ListN.{length, getD}
@@ -16,26 +16,11 @@ use Rattle.cycle.specs.declared.string.StringState.{StringState}
 use Rattle.cycle.specs.declared.values.Sample.{Sample}
 use Rattle.cycle.proofs.Each.{each-length, each-at}
 
--- ---- one string
-
 pub both-halves : (m : ℕ) (masks : List ℕ) (path : Bool) (x : Sample) (gap missed : Bool) (s : StringState)
     → fourthStep m masks path (x .valves) (firstSteps m masks path x gap missed s) ≡ minorCycle m masks path x gap missed s
 unfolding firstSteps fourthStep minorCycle minorSteps
 both-halves m masks true x gap missed s = refl
 both-halves m masks false x gap missed s = refl
-
--- ---- four
-
-module _ {A : Type 0} (f g : ℕ → A → A) (d : A) where
-  -- one rule after the other is both at once
-  pub twice-each : (l : List A) → length l ≡ 4 → each 4 g d (each 4 f d l) ≡ each 4 (λ s x. g s (f s x)) d l
-  unfolding each
-  twice-each [] q = absurd (omega arith)
-  twice-each (x ∷ []) q = absurd (omega arith)
-  twice-each (x ∷ y ∷ []) q = absurd (omega arith)
-  twice-each (x ∷ y ∷ z ∷ []) q = absurd (omega arith)
-  twice-each (x ∷ y ∷ z ∷ w ∷ []) q = refl
-  twice-each (x ∷ y ∷ z ∷ w ∷ v ∷ l) q = absurd (omega arith)
 
 -- ---- the saved sets
 

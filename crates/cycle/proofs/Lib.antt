@@ -6,6 +6,7 @@ pub mod Quiet
 pub mod Halves
 pub mod Loops
 pub mod Maps
+pub mod BehindClosed
 pub mod BothWays
 pub mod Verdicts
 pub mod Leaks
@@ -28,6 +29,9 @@ pub mod Close
 pub mod Runs
 pub mod RunClose
 pub mod Drops
+pub mod ShutOut
+pub mod Heeded
+pub mod ShutOutHalls
 pub mod Overrides
 pub mod Turns
 pub mod UnmappedSteps

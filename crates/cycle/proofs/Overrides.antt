@@ -1,13 +1,13 @@
 -- What a night keeper relies on, jet by jet, after every history: an inhibit in force fails the jet, a re-enable in force keeps it good,
 -- and the two are never in force together. Assumes nothing.
 use mathlib.Core.Path.{_≡_, refl, sym, ap, _∙_}
-use mathlib.Core.Bool.{Bool, true, false, not, _&&_, _||_}
+use mathlib.Core.Bool.{Bool, true, false, not, cond, _&&_, _||_}
 use mathlib.Core.List.{List, [], _∷_}
 use Prim.Native.Nat.{ℕ}
 use Rattle.bits.proofs.Yes.{not-both, and-false}
 use Rattle.cycle.specs.Numbers.{isMajor, missedCycle, missedMajor}
-use Rattle.cycle.specs.Jets.{JetRecord, pathLost, recovered, gapped, offFailure, valveMoved, remembered, requested, offShifted}
-use Rattle.cycle.specs.Jets.{isBad, onFailure, kept, minorSteps, afterRequests, majorSteps, cycle, reached, run}
+use Rattle.cycle.specs.Jets.{JetRecord, pathLost, recovered, gapped, offFailure, valveMoved, remembered, reenabled, requested}
+use Rattle.cycle.specs.Jets.{offShifted, isBad, onFailure, kept, minorSteps, afterRequests, majorSteps, cycle, reached, run}
 use Rattle.cycle.specs.declared.jet.JetOverrides.{JetOverrides}
 use Rattle.cycle.specs.declared.jet.JetState.{JetState}
 use Rattle.cycle.proofs.CloseSteps.{path-cycle, minor-cycle, major-cycle}
@@ -91,7 +91,11 @@ minor-minded old r s apart =
 requested-minded : (inhibit reenable : Bool) (s : JetState) → MindedJet s → MindedJet (requested inhibit reenable s)
 unfolding requested
 requested-minded true reenable s x = record { inhibitFails = λ e. refl; reenableFree = λ e. sym e; apart = refl }
-requested-minded false true s x = record { inhibitFails = λ e. e; reenableFree = λ e. refl; apart = refl }
+requested-minded false true s x = by (s .standing .valve)
+  where
+    by : (opened : Bool) → MindedJet (cond opened (reenabled s) s)
+    by true = record { inhibitFails = λ e. e; reenableFree = λ e. refl; apart = refl }
+    by false = x
 requested-minded false false s x = x
 
 -- "Jets in both, not re-enabled, join the fail word"

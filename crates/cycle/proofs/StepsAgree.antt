@@ -1,6 +1,6 @@
 -- The packed steps, but for step 4, do to jet j on manifold i what the jet's rules say: bit j of each word is the jet's value.
 -- Assumes nothing.
-use mathlib.Core.Path.{_≡_, refl, _∙_}
+use mathlib.Core.Path.{_≡_, refl, ap, _∙_}
 use mathlib.Core.Bool.{Bool, true, false, not, cond, _&&_, _||_, or-true}
 use mathlib.Core.List.{List}
 use Prim.Native.Nat.{ℕ}
@@ -20,10 +20,16 @@ carriedOut inhibit reenable s =
     (record { inhibit = (s .over .inhibit && not reenable) || inhibit; reenable = (s .over .reenable || reenable) && not inhibit })
     (jets.withFail ((s .standing .fail && not reenable) || inhibit) s)
 
-carried-out : (inhibit reenable : Bool) (s : JetState) → carriedOut inhibit reenable s ≡ jets.requested inhibit reenable s
+-- a re-enable is carried out where the valve is remembered as open
+carried-out : (inhibit reenable : Bool) (s : JetState)
+    → carriedOut inhibit (reenable && s .standing .valve) s ≡ jets.requested inhibit reenable s
 unfolding jets.requested
 carried-out true reenable s = simp (or-true, and-false)
-carried-out false true s = simp (or-true, or-false, and-false, and-true)
+carried-out false true s = by (s .standing .valve)
+  where
+    by : (opened : Bool) → carriedOut false opened s ≡ cond opened (jets.reenabled s) s
+    by true = simp (or-true, or-false, and-false, and-true)
+    by false = simp (or-false, and-true)
 carried-out false false s = simp (or-false, and-true)
 
 module _ (i j : ℕ) where
@@ -62,13 +68,16 @@ module _ (i j : ℕ) where
   off-failure-agrees commanded pressure s = simp (bit-and, bit-or, bit-without)
 
   -- 5
-  pub requested-agrees : (inhibit reenable drop : ℕ) (s : StringState)
-      → jetOf i j (words.requested inhibit reenable drop s) ≡ jets.requested (bit j inhibit) (bit j reenable) (jetOf i j s)
+  pub requested-agrees : (inhibit heeded drop : ℕ) (reenable : Bool) (s : StringState)
+      → bit j heeded ≡ (reenable && bit i (s .standing .valves))
+      → jetOf i j (words.requested inhibit heeded drop s) ≡ jets.requested (bit j inhibit) reenable (jetOf i j s)
   unfolding words.requested
-  requested-agrees inhibit reenable drop s =
-      let e : jetOf i j (words.requested inhibit reenable drop s) ≡ carriedOut (bit j inhibit) (bit j reenable) (jetOf i j s) =
+  requested-agrees inhibit heeded drop reenable s own =
+      let e : jetOf i j (words.requested inhibit heeded drop s) ≡ carriedOut (bit j inhibit) (bit j heeded) (jetOf i j s) =
       simp (bit-or, bit-without) in
-      e ∙ carried-out (bit j inhibit) (bit j reenable) (jetOf i j s)
+      e
+      ∙ ap (λ (b : Bool). carriedOut (bit j inhibit) b (jetOf i j s)) own
+      ∙ carried-out (bit j inhibit) reenable (jetOf i j s)
 
   -- 6
   pub rechecked-agrees : (m : ℕ) (masks : List ℕ) (bad : ℕ) (s : StringState) → jetOf i j (words.rechecked m masks bad s) ≡ jetOf i j s

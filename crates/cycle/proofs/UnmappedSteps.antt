@@ -13,7 +13,7 @@ use Rattle.bits.proofs.Bits.{bit-and, bit-or, bit-without, bit-none}
 use Rattle.cycle.specs.Map.{mapped}
 use Rattle.cycle.specs.Words.{Passed, handled, atManifold, manifold, passed, manifolds, noOff, noOn, offCleared}
 use Rattle.cycle.specs.Words.{withStanding, withOff, withOn, withLost, recovered, gapped, offFailure, requested, rechecked}
-use Rattle.cycle.specs.Words.{badJets, onFailure, kept, minorSteps, badOf, majorSteps}
+use Rattle.cycle.specs.Words.{behindClosed, badJets, onFailure, kept, minorSteps, badOf, majorSteps}
 use Rattle.cycle.specs.Unmapped.{NoneOf}
 use Rattle.cycle.specs.declared.string.StringState.{StringState}
 use Rattle.cycle.specs.declared.values.Sample.{Sample}
@@ -199,8 +199,10 @@ module _ (m : ℕ) (masks : List ℕ) (j : ℕ) (free : (i : ℕ) → i < m → 
         → NoneOf j (majorSteps m masks x leaking q s)
     unfolding majorSteps
     major-steps-none x leaking q s p =
+        let named : ℕ = bitAnd jets (q .reenable) in
+        let closed : ℕ = behindClosed m masks (s .standing .valves) in
         kept-none _
         (on-failure-none _ (bad-none x leaking) _
         (rechecked-none _ _
-        (requested-none (bitAnd jets (q .inhibit)) (bitAnd jets (q .reenable)) (q .drop) (and-none j jets (q .inhibit) out)
-        (and-none j jets (q .reenable) out) s p)))
+        (requested-none (bitAnd jets (q .inhibit)) (without named closed) (q .drop) (and-none j jets (q .inhibit) out)
+        (without-none j named closed (and-none j jets (q .reenable) out)) s p)))

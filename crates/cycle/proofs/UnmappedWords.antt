@@ -6,14 +6,14 @@ use Prim.Native.Nat.{ℕ}
 use borrow.Author.Tests.{ltb-true, ltb-false}
 use lib.Bits.{bitAnd, bitOr}
 use lib.Dec.{ltb}
-use Rattle.bits.specs.Bit.{bit}
+use Rattle.bits.specs.Bit.{bit, without}
 use Rattle.bits.proofs.Bits.{bit-or, bit-past}
 use Rattle.bits.proofs.Words.{pack-lt}
 use Rattle.cycle.specs.Size.{jetCount, manifoldCount}
 use Rattle.cycle.specs.Map.{mapped}
 use Rattle.cycle.specs.Words.{offFailure, manifolds, gapped, recovered, jetLeaks, leakWord, badJets, badOf, requested}
 use Rattle.cycle.specs.Words.{withOff, withFail, offFails, onFailure, rechecked, kept, pathLost}
-use Rattle.cycle.specs.Words.{minorSteps, majorSteps, minorCycle, majorCycle}
+use Rattle.cycle.specs.Words.{behindClosed, minorSteps, majorSteps, minorCycle, majorCycle}
 use Rattle.cycle.specs.declared.string.OffSlots.{OffSlots}
 use Rattle.cycle.specs.declared.string.StringState.{StringState}
 use Rattle.cycle.specs.declared.values.Sample.{Sample}
@@ -91,10 +91,11 @@ module _ (masks : List ℕ) (x y : Sample) (p q : Requests) (t u : Temperatures)
       → majorSteps manifoldCount masks x (leakWord t) p s ≡ majorSteps manifoldCount masks y (leakWord u) q s
   unfolding majorSteps
   major-steps-same s =
+      let closed : ℕ = behindClosed manifoldCount masks (s .standing .valves) in
       ap₂ (λ (bad : ℕ) (z : StringState). kept (onFailure bad (rechecked manifoldCount masks bad z))) bad-same
-      (ap₂ (λ (a b : ℕ). requested a b (p .drop) s) (cut-same jets (p .inhibit) (q .inhibit) (alike .inhibit))
+      (ap₂ (λ (a b : ℕ). requested a (without b closed) (p .drop) s) (cut-same jets (p .inhibit) (q .inhibit) (alike .inhibit))
       (cut-same jets (p .reenable) (q .reenable) (alike .reenable))
-      ∙ ap (λ (d : ℕ). requested (bitAnd jets (q .inhibit)) (bitAnd jets (q .reenable)) d s) (alike .drop))
+      ∙ ap (λ (d : ℕ). requested (bitAnd jets (q .inhibit)) (without (bitAnd jets (q .reenable)) closed) d s) (alike .drop))
 
   pub major-cycle-same : (path way : Bool) → path ≡ way → (s : StringState)
       → majorCycle manifoldCount masks path x t p s ≡ majorCycle manifoldCount masks way y u q s

@@ -42,6 +42,22 @@ withDrop drop r = record {
   oxidizer = r .oxidizer;
 }
 
+-- the same with another re-enable
+abbrev pub withReenable : Bool → JetRecord → JetRecord
+withReenable reenable r = record {
+  n = r .n;
+  path = r .path;
+  commanded = r .commanded;
+  pressure = r .pressure;
+  driver = r .driver;
+  valve = r .valve;
+  inhibit = r .inhibit;
+  reenable = reenable;
+  drop = r .drop;
+  fuel = r .fuel;
+  oxidizer = r .oxidizer;
+}
+
 -- the state with one group written anew
 abbrev pub withStanding : JetStanding → JetState → JetState
 withStanding x s = record { standing = x; good = s .good; off = s .off; on = s .on; over = s .over; lost = s .lost }
@@ -143,7 +159,8 @@ abbrev pub manifoldStep : Bool → JetState → JetState
 manifoldStep now s = remembered now (valveMoved (s .standing .valve) now s)
 
 -- 5. Requests (1.3.4.3): "Inhibit: the inhibit comes in force, re-enable lapses, the jet fails. Re-enable: the reverse, and the jet
--- leaves the fail word." No taken record names a mapped jet both ways (02, order 4); if the step is handed one, the inhibit decides.
+-- leaves the fail word." 02, order 8: "Step 5 now ignores a re-enable for a jet on a manifold remembered as closed." No taken record names
+-- a mapped jet both ways (02, order 4); if the step is handed one, the inhibit decides.
 abbrev pub inhibited : JetState → JetState
 inhibited s = withOver (record { inhibit = true; reenable = false }) (withFail true s)
 
@@ -152,7 +169,7 @@ reenabled s = withOver (record { inhibit = false; reenable = true }) (withFail f
 
 unfoldable pub requested : Bool → Bool → JetState → JetState
 requested true reenable s = inhibited s
-requested false true s = reenabled s
+requested false true s = cond (s .standing .valve) (reenabled s) s
 requested false false s = s
 
 -- 5. 02, order 6: "bit i asks to drop manifold i's close bit", "lost under a path fault as other requests are": is it carried out, at a

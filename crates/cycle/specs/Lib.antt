@@ -13,6 +13,7 @@ pub mod Close
 pub mod Views
 pub mod BothWays
 pub mod Proper
+pub mod ShutOut
 pub mod Turns
 pub mod Unmapped
 pub mod Inside

@@ -135,7 +135,13 @@ manifolds m masks now s =
     (record { fail = s .standing .fail; reenable = s .over .reenable; saved = s .standing .saved }))
     s
 
--- 5. Requests: where a jet is named both ways, which no taken record does, the inhibit decides; the close bits of `drop` go
+-- 5. the jets on those of the lowest m manifolds remembered as closed: 02, order 8, "ignores a re-enable for a jet" on these
+unfoldable pub behindClosed : ℕ → List ℕ → ℕ → ℕ
+behindClosed zero masks valves = 0
+behindClosed (suc i) masks valves = bitOr (behindClosed i masks valves) (cond (bit i valves) 0 (getD masks i 0))
+
+-- 5. Requests, those that are heeded: where a jet is named both ways, which no taken record does, the inhibit decides; the close bits of
+-- `drop` go
 abbrev pub overridden : ℕ → ℕ → Overrides → Overrides
 overridden inhibit reenable x = record
     { inhibit = bitOr (without (x .inhibit) reenable) inhibit; reenable = without (bitOr (x .reenable) reenable) inhibit }
@@ -185,9 +191,11 @@ unfoldable pub minorSteps : ℕ → List ℕ → Sample → Bool → Bool → St
 minorSteps m masks x gap missed s =
     manifolds m masks (x .valves) (offFailure (bitAnd (mapped m masks) (x .commanded)) (x .pressure) (gapped gap missed (recovered s)))
 
--- step 5; requests of unmapped jets are ignored
+-- step 5; requests of unmapped jets are ignored, and re-enables behind closed valves
 abbrev pub afterRequests : ℕ → List ℕ → Requests → StringState → StringState
-afterRequests m masks q s = requested (bitAnd (mapped m masks) (q .inhibit)) (bitAnd (mapped m masks) (q .reenable)) (q .drop) s
+afterRequests m masks q s =
+    requested (bitAnd (mapped m masks) (q .inhibit))
+    (without (bitAnd (mapped m masks) (q .reenable)) (behindClosed m masks (s .standing .valves))) (q .drop) s
 
 -- step 6; badness of unmapped jets is ignored
 abbrev pub badOf : ℕ → List ℕ → Sample → ℕ → ℕ

@@ -9,6 +9,7 @@ pub mod leak;
 pub mod map;
 pub mod number;
 pub mod requests;
+mod sets;
 pub mod size;
 pub mod string;
 pub mod values;

@@ -12,8 +12,11 @@ pub const ALL_JETS: u32 = ((1u64 << JETS) - 1) as u32;
 // Each string has eight manifolds.
 pub const MANIFOLDS: usize = 8;
 
-// All valves open: a bit for each manifold.
-pub const ALL_OPEN: u32 = (1 << MANIFOLDS) - 1;
+// All manifolds of a string: a bit for each.
+pub const ALL_MANIFOLDS: u32 = (1 << MANIFOLDS) - 1;
+
+// All valves open.
+pub const ALL_OPEN: u32 = ALL_MANIFOLDS;
 
 // Two temperature words a jet, fuel then oxidizer.
 pub const TEMPERATURES: usize = 2 * JETS;

@@ -1,22 +1,22 @@
 // One string of 32 jets on packed words: jet j is bit j. A method for each numbered step of document 01.
 ghost use mathlib.Core.Path.{_≡_};
-ghost use mathlib.Core.Bool.{cond};
 ghost use Rattle.cycle.specs.Size.{manifoldCount};
 ghost use Rattle.cycle.specs.Inside.Quiet.{busy, quietCycle};
 ghost use Rattle.cycle.specs.Words.{fresh, pathLost, recovered, gapped, offFailure, manifold, manifolds};
-ghost use Rattle.cycle.specs.Words.{requested, asksClose, closeBits, rechecked, onFailure, kept, badJets};
-ghost use Rattle.cycle.specs.Words.{majorCycle};
+ghost use Rattle.cycle.specs.Words.{requested, rechecked, onFailure, kept, majorCycle};
 ghost use Rattle.cycle.specs.Inside.Halves.{firstSteps, fourthStep};
 use crate::leak::leak_word;
 use crate::map::Masks;
+use crate::sets::bad_jets;
+use crate::sets::behind_closed;
+use crate::sets::close_bits;
+use crate::sets::sets_back;
 use crate::size::ALL_OPEN;
 use crate::size::MANIFOLDS;
 use crate::values::Requests;
 use crate::values::Sample;
 use crate::values::Temperatures;
 use bits::has;
-use bits::meets;
-use bits::with_bit;
 use bits::without;
 
 // What the good copy is a copy of: the fail word, the remembered valves (bit i set: manifold i is open) and each manifold's saved set.
@@ -81,57 +81,6 @@ impl AtManifold {
         }
         self
     }
-}
-
-// Step 6: does a manifold with the jets of `mask` get its close bit: is one and the same jet of it in the recheck word and bad again?
-fn asks_close(mask: u32, recheck: u32, bad: u32) -> bool
-    ensures { λ r. ⌜ r ≡ asksClose mask recheck bad ⌝ }
-{
-    meets(mask & recheck, bad)
-}
-
-// The manifolds that get their close bits.
-fn close_bits(masks: Masks, recheck: u32, bad: u32) -> u32
-    ensures { λ r. ⌜ r ≡ closeBits manifoldCount (masks .words) recheck bad ⌝ }
-{
-    let words = masks.words;
-    let mut w: u32 = 0;
-    let mut i: usize = 0;
-    while i < MANIFOLDS {
-        let asks = asks_close(words[i], recheck, bad);
-        w = with_bit(w, i, asks);
-        i += 1;
-    }
-    w
-}
-
-// Step 6: the mapped jets that are bad.
-fn bad_jets(mapped: u32, commanded: u32, driver: u32, leaking: u32) -> u32
-    ensures { λ r. ⌜ r ≡ badJets mapped commanded driver leaking ⌝ }
-{
-    without(mapped & (driver | leaking), commanded)
-}
-
-// x if b, else y.
-fn chosen(b: bool, x: u32, y: u32) -> u32
-    ensures { λ r. ⌜ r ≡ cond b x y ⌝ }
-{
-    if b { x } else { y }
-}
-
-// The saved sets that are kept, if a path fault is over, else their own. Each is chosen by its bit of a word: copied as one they stay in
-// memory, and every record, quiet or not, carries them from place to place.
-fn sets_back(lost: bool, kept: [u32; MANIFOLDS], own: [u32; MANIFOLDS]) -> [u32; MANIFOLDS]
-    ensures { λ r. ⌜ r ≡ cond lost kept own ⌝ }
-{
-    let back = chosen(lost, ALL_OPEN, 0);
-    let mut saved = own;
-    let mut i: usize = 0;
-    while i < MANIFOLDS {
-        saved[i] = chosen(has(back, i), kept[i], saved[i]);
-        i += 1;
-    }
-    saved
 }
 
 impl StringState {
@@ -307,7 +256,8 @@ impl StringState {
         next
     }
 
-    // Step 5. Where both words name a jet, which no taken record does, the inhibit decides. A dropped close bit may be set again in step 6.
+    // Step 5, given the requests that are heeded. Where both words name a jet, which no taken record does, the inhibit decides. A dropped
+    // close bit may be set again in step 6.
     fn requested(mut self, inhibit: u32, reenable: u32, drop: u32) -> StringState
         ensures { λ r. ⌜ r ≡ requested inhibit reenable drop self ⌝ }
     {
@@ -406,7 +356,9 @@ impl StringState {
             let mapped = masks.mapped();
             let leaking = leak_word(mapped, t);
             let bad = bad_jets(mapped, sample.commanded, sample.driver, leaking);
-            let a = self.requested(mapped & q.inhibit, mapped & q.reenable, q.drop as u32);
+            let closed = behind_closed(masks, self.standing.valves);
+            let heeded = without(mapped & q.reenable, closed);
+            let a = self.requested(mapped & q.inhibit, heeded, q.drop as u32);
             let b = a.rechecked(masks, bad);
             let d = b.on_failure(bad);
             d.kept()

@@ -16,3 +16,5 @@ pub mod CloseFirst
 pub mod BadTaken
 pub mod OneWay
 pub mod ReliedOn
+pub mod ClosedFailed
+pub mod RequestsHeeded

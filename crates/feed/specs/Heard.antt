@@ -69,6 +69,20 @@ pub record DropCarriedOut (s i : ℕ) (r : List ℕ) : Type 0 where
   pub path : bit s (getD r 4 0) ≡ false
   pub asked : bit i (getD r (601 + s) 0) ≡ true
 
+-- The same for jet j: its inhibit is carried out.
+pub record InhibitCarriedOut (s j : ℕ) (r : List ℕ) : Type 0 where
+  pub mark : getD r 1 0 ≡ 0x4A
+  pub path : bit s (getD r 4 0) ≡ false
+  pub asked : bit j (four r (569 + 8 * s)) ≡ true
+
+-- And its re-enable, the jet being on manifold i. 02, order 8: "Step 5 now ignores a re-enable for a jet on a manifold remembered as
+-- closed": after step 4, which remembers the record's own valve byte.
+pub record ReenableCarriedOut (s i j : ℕ) (r : List ℕ) : Type 0 where
+  pub mark : getD r 1 0 ≡ 0x4A
+  pub path : bit s (getD r 4 0) ≡ false
+  pub valve : bit i (getD r (17 + 13 * s) 0) ≡ true
+  pub asked : bit j (four r (573 + 8 * s)) ≡ true
+
 -- what the records taken say of the jet
 abbrev pub jetHistory : ℕ → ℕ → ℕ → List Heard → List JetRecord
 jetHistory s i j ts = historyBy (jetHeard s i j) ts

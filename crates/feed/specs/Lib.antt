@@ -12,6 +12,7 @@ pub mod Handed
 pub mod Answered
 pub mod OneRecord
 pub mod Heard
+pub mod SaidClosed
 pub mod Calls
 pub mod SettledAt
 pub mod Tells

@@ -274,14 +274,23 @@ impl Jet {
         self
     }
 
-    // By what is asked for it. (No taken record names a mapped jet both ways, 02, order 4; if this is handed one, the inhibit decides.)
+    // By what is asked for it. 02, order 8: "Step 5 now ignores a re-enable for a jet on a manifold remembered as closed." (No taken record
+    // names a mapped jet both ways, 02, order 4; if this is handed one, the inhibit decides.)
     pub(crate) fn requested(self, inhibit: bool, reenable: bool) -> Jet
         ensures { λ r. ⌜ r ≡ by (requested inhibit reenable) self ⌝ }
     {
         if inhibit {
             self.inhibited()
         } else {
-            if reenable { self.reenabled() } else { self }
+            if reenable {
+                if self.standing.valve {
+                    self.reenabled()
+                } else {
+                    self
+                }
+            } else {
+                self
+            }
         }
     }
 }

@@ -28,19 +28,19 @@ use Rattle.promises.proofs.InstanceGiven.{feed-given, longer-given}
 -- ---- the map
 
 -- manifolds without jets
-quiet : (n i : ℕ) → getD (replicate n 0) i 0 < 2 ^ wordBits
+pub no-jets-fit : (n i : ℕ) → getD (replicate n 0) i 0 < 2 ^ wordBits
 unfolding IsLe
-quiet zero i = le-by-compare 1 0x100000000 tt
-quiet (suc n) zero = le-by-compare 1 0x100000000 tt
-quiet (suc n) (suc i) = quiet n i
+no-jets-fit zero i = le-by-compare 1 0x100000000 tt
+no-jets-fit (suc n) zero = le-by-compare 1 0x100000000 tt
+no-jets-fit (suc n) (suc i) = no-jets-fit n i
 
 pub night-fits : FitMap nightMap
 unfolding IsLe
 night-fits zero zero l m = le-by-compare 0x10 0x100000000 tt
-night-fits zero (suc i) l m = quiet 7 i
-night-fits (suc zero) i l m = quiet manifoldCount i
-night-fits (suc (suc zero)) i l m = quiet manifoldCount i
-night-fits (suc (suc (suc zero))) i l m = quiet manifoldCount i
+night-fits zero (suc i) l m = no-jets-fit 7 i
+night-fits (suc zero) i l m = no-jets-fit manifoldCount i
+night-fits (suc (suc zero)) i l m = no-jets-fit manifoldCount i
+night-fits (suc (suc (suc zero))) i l m = no-jets-fit manifoldCount i
 night-fits (suc (suc (suc (suc s)))) i l m = absurd (omega arith)
 
 -- ---- the reports

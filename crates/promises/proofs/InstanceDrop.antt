@@ -12,7 +12,7 @@ use Rattle.cycle.specs.Each.{each, table}
 use Rattle.cycle.specs.Map.{mapped}
 use Rattle.cycle.specs.Numbers.{isMajor, missedMajor, following, judgedAt, judged}
 use Rattle.cycle.specs.Words.{recovered, gapped, offFailure, manifold, passed, manifolds, minorSteps, minorCycle}
-use Rattle.cycle.specs.Words.{requested, leakWord, badJets, closeBits, rechecked, onFailure, kept, majorSteps, majorCycle}
+use Rattle.cycle.specs.Words.{requested, behindClosed, leakWord, badJets, closeBits, rechecked, onFailure, kept, majorSteps, majorCycle}
 use Rattle.cycle.specs.Banks.{weighed, weighedAll}
 use Rattle.cycle.specs.Hall.{freshHall, minorStrings, majorStrings, taken, bothWays, unlessBothWays, verdictOn, stepped}
 use Rattle.cycle.specs.Inside.Runs.{hallAfter}
@@ -54,10 +54,10 @@ carried-out = record { mark = refl; path = refl; asked = refl }
 
 steps : Stepping repairBytes hallAt75 Taken hallAt100 (reportOfString 0 100 0x00000002 0x00)
 unfolding bit without meets withBit pack any each table mapped isMajor missedMajor following judgedAt judged recovered gapped offFailure
-    manifold passed manifolds requested leakWord badJets closeBits rechecked onFailure kept minorSteps majorSteps minorCycle majorCycle
-    weighed weighedAll freshHall minorStrings majorStrings taken bothWays unlessBothWays verdictOn stepped hallAfter samplesOf minorOf
-    wordsAt temperaturesOf requestsOf quantitiesOf majorOf valuesOf parts headOf stringBytes stringsBytes balanceOf lesserBytes banksBytes
-    reportOf warmWords repairBytes hallAt75 hallAt100
+    manifold passed manifolds requested behindClosed leakWord badJets closeBits rechecked onFailure kept minorSteps majorSteps minorCycle
+    majorCycle weighed weighedAll freshHall minorStrings majorStrings taken bothWays unlessBothWays verdictOn stepped hallAfter samplesOf
+    minorOf wordsAt temperaturesOf requestsOf quantitiesOf majorOf valuesOf parts headOf stringBytes stringsBytes balanceOf lesserBytes
+    banksBytes reportOf warmWords repairBytes hallAt75 hallAt100
 steps = record { step = refl; told = refl }
 
 -- ---- the call that takes it

@@ -9,7 +9,7 @@ use Rattle.cycle.specs.Each.{each, table}
 use Rattle.cycle.specs.Map.{mapped, overlap, refused}
 use Rattle.cycle.specs.Numbers.{isMajor, missedMajor, following, judgedAt, judged}
 use Rattle.cycle.specs.Words.{recovered, gapped, offFailure, manifold, passed, manifolds, minorSteps, minorCycle}
-use Rattle.cycle.specs.Words.{requested, leakWord, badJets, closeBits, rechecked, onFailure, kept, majorSteps, majorCycle}
+use Rattle.cycle.specs.Words.{requested, behindClosed, leakWord, badJets, closeBits, rechecked, onFailure, kept, majorSteps, majorCycle}
 use Rattle.cycle.specs.Banks.{weighed, weighedAll}
 use Rattle.cycle.specs.Hall.{freshHall, started, minorStrings, majorStrings, taken, bothWays, unlessBothWays, verdictOn, stepped}
 use Rattle.cycle.specs.Inside.Runs.{hallAfter}
@@ -36,10 +36,10 @@ pub steps-of : Stepping (majorBytes 25) (freshHall nightMap) Taken hallAt25 (rep
     × Stepping (majorBytes 25) hallAt25 Repeat hallAt25 (reportOfString 2 25 0x00000000 0x00)
     × Stepping (minorBytes 10) hallAt50 Stale hallAt50 (reportOfString 1 50 0x00000002 0x00)
 unfolding bit without meets withBit pack any each table mapped isMajor missedMajor following judgedAt judged recovered gapped offFailure
-    manifold passed manifolds requested leakWord badJets closeBits rechecked onFailure kept minorSteps majorSteps minorCycle majorCycle
-    weighed weighedAll freshHall minorStrings majorStrings taken bothWays unlessBothWays verdictOn stepped hallAfter samplesOf minorOf
-    wordsAt temperaturesOf requestsOf quantitiesOf majorOf valuesOf parts headOf stringBytes stringsBytes balanceOf lesserBytes banksBytes
-    reportOf warmWords majorBytes minorBytes hallAt25 hallAt50 hallAt75
+    manifold passed manifolds requested behindClosed leakWord badJets closeBits rechecked onFailure kept minorSteps majorSteps minorCycle
+    majorCycle weighed weighedAll freshHall minorStrings majorStrings taken bothWays unlessBothWays verdictOn stepped hallAfter samplesOf
+    minorOf wordsAt temperaturesOf requestsOf quantitiesOf majorOf valuesOf parts headOf stringBytes stringsBytes balanceOf lesserBytes
+    banksBytes reportOf warmWords majorBytes minorBytes hallAt25 hallAt50 hallAt75
 steps-of = (
   record { step = refl; told = refl },
   record { step = refl; told = refl },

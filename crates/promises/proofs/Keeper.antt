@@ -11,16 +11,18 @@ use lib.ListN.{length}
 use Rattle.bits.specs.Bit.{bit}
 use Rattle.cycle.specs.Size.{stringCount}
 use Rattle.cycle.specs.Answers.{isTaken, writesReport}
-use Rattle.cycle.specs.Jets.{JetRecord, withDrop, cycle, asksAt, run}
+use Rattle.cycle.specs.Jets.{JetRecord, withDrop, withReenable, cycle, asksAt, run}
 use Rattle.cycle.specs.Map.{masksOf, inMask, FitMap, refused}
 use Rattle.cycle.specs.declared.answer.Answer.the-variants.{Taken, NothingSettled}
 use Rattle.cycle.specs.declared.map.Masks.{Masks}
 use Rattle.cycle.specs.declared.jet.JetState.{JetState}
 use Rattle.cycle.proofs.Overrides.{never-both}
 use Rattle.cycle.proofs.Drops as drops
+use Rattle.cycle.proofs.Heeded as requests
 use Rattle.feed.specs.Bytes.{four}
 use Rattle.feed.specs.Good.{MajorRecord, WholeRecord}
-use Rattle.feed.specs.Heard.{jetHistory}
+use Rattle.feed.specs.Heard.{jetHistory, InhibitCarriedOut, ReenableCarriedOut}
+use Rattle.feed.specs.SaidClosed.{Newest, SaidClosed, RememberedClosed}
 use Rattle.feed.specs.Settled.{recordIn}
 use Rattle.feed.specs.Call.{holds, holding, call}
 use Rattle.feed.specs.Calls.{Made, monitorAfter, answerOf, reportIn, takenRecords, Finished}
@@ -31,6 +33,8 @@ use Rattle.feed.proofs.Calls.NextRecord as next
 use Rattle.feed.proofs.Calls.NoLongWait as wait
 use Rattle.feed.proofs.Reports.CloseFirst as close
 use Rattle.feed.proofs.Reports.ReliedOn as relied
+use Rattle.feed.proofs.Reports.ClosedFailed as closed
+use Rattle.feed.proofs.Reports.RequestsHeeded as heeded
 
 -- ---- in every report, also one that answers 1 to 4 or 7
 
@@ -52,6 +56,27 @@ module _ (masks : List Masks) (words : FitMap masks) (accepted : refused stringC
     pub never-both-ways : ((run (jetHistory s i j (takenRecords masks (c ∷ cs)))) .over .inhibit
         && (run (jetHistory s i j (takenRecords masks (c ∷ cs)))) .over .reenable) ≡ false
     never-both-ways = never-both (jetHistory s i j (takenRecords masks (c ∷ cs)))
+
+    -- 02, order 8, by eye: where the newest record taken has the string's path bit clear and the manifold's valve bit clear, the jet is
+    -- failed in its report, and in those that answer 1 to 4 or 7 after it
+    pub closed-failed : Newest (SaidClosed s i) (takenRecords masks (c ∷ cs)) → bit j (four (reportIn masks c cs) (7 + 5 * s)) ≡ true
+    closed-failed = closed.closed-failed masks words accepted s i j string manifold stands c cs written
+
+    -- and while the path is lost, the newest one with the path bit clear decides
+    pub closed-failed-still : RememberedClosed s i (takenRecords masks (c ∷ cs)) → bit j (four (reportIn masks c cs) (7 + 5 * s)) ≡ true
+    closed-failed-still = closed.remembered-failed masks words accepted s i j string manifold stands c cs written
+
+    -- an inhibit that the newest record taken carries out is in force, and the jet failed, whatever its valve; and so a re-enable is in
+    -- force, and the jet good, if the record has its valve bit set
+    pub inhibit-heeded : Newest (InhibitCarriedOut s j) (takenRecords masks (c ∷ cs))
+        → ((run (jetHistory s i j (takenRecords masks (c ∷ cs)))) .over .inhibit ≡ true)
+        × (bit j (four (reportIn masks c cs) (7 + 5 * s)) ≡ true)
+    inhibit-heeded = heeded.inhibit-heeded masks words accepted c cs written s i j string manifold stands
+
+    pub reenable-heeded : Newest (ReenableCarriedOut s i j) (takenRecords masks (c ∷ cs))
+        → ((run (jetHistory s i j (takenRecords masks (c ∷ cs)))) .over .reenable ≡ true)
+        × (bit j (four (reportIn masks c cs) (7 + 5 * s)) ≡ false)
+    reenable-heeded = heeded.reenable-heeded masks words accepted c cs written s i j string manifold stands
 
   -- a close bit goes only at a drop carried out: once in a report, it is in that of every later call d, unless a call up to d drops it
   pub close-stays : (s i : ℕ) → s < 4 → i < 8 → Shows masks s i c cs → (later : List Made) (d : Made)
@@ -88,6 +113,15 @@ module _ (m : Monitor) (piece out : List ℕ) where
 pub drop-leaves-jets : (drop : Bool) (old : ℕ) (r : JetRecord) (s : JetState)
     → (cycle old (withDrop drop r) s ≡ cycle old r s) × (asksAt old (withDrop drop r) s ≡ asksAt old r s)
 drop-leaves-jets drop old r s = (drops.drop-leaves drop old r s, drops.drop-asks drop old r s)
+
+-- ---- a re-enable behind a closed valve
+
+-- Whether a record that says of the jet's valve that it is closed re-enables the jet or not, the jet steps, and asks for its manifold's
+-- close bit, alike: such a re-enable is not kept for later, and an inhibit in force stays.
+pub reenable-ignored : (reenable : Bool) (old : ℕ) (r : JetRecord) (s : JetState) → r .valve ≡ false
+    → (cycle old (withReenable reenable r) s ≡ cycle old r s) × (asksAt old (withReenable reenable r) s ≡ asksAt old r s)
+reenable-ignored reenable old r s shut =
+    (requests.ignored-leaves reenable old r s shut, requests.ignored-asks reenable old r s shut)
 
 -- ---- no long wait
 

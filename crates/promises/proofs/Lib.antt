@@ -18,6 +18,7 @@ pub mod InstanceFinished
 pub mod InstanceCut
 pub mod InstanceClose
 pub mod InstanceDrop
+pub mod InstanceClosed
 pub mod InstanceWrites
 pub mod SmallRules
 pub mod Keeper

@@ -7,7 +7,7 @@ use Rattle.cycle.specs.Each.{each, table}
 use Rattle.cycle.specs.Map.{mapped, overlap, refused}
 use Rattle.cycle.specs.Numbers.{isMajor, missedMajor, following, judgedAt, judged}
 use Rattle.cycle.specs.Words.{pathLost, recovered, gapped, offFailure, manifold, passed, manifolds, minorSteps, minorCycle}
-use Rattle.cycle.specs.Words.{requested, leakWord, badJets, closeBits, rechecked, onFailure, kept, majorSteps, majorCycle}
+use Rattle.cycle.specs.Words.{requested, behindClosed, leakWord, badJets, closeBits, rechecked, onFailure, kept, majorSteps, majorCycle}
 use Rattle.cycle.specs.Banks.{weighed, weighedAll}
 use Rattle.cycle.specs.Hall.{freshHall, started, minorStrings, majorStrings, taken, bothWays, unlessBothWays, verdictOn, stepped}
 use Rattle.feed.specs.Format.{rowOf, markOf, total, sumOf, reservedZero, quantitiesRight, goodMinor, goodMajor, markedLook}
@@ -28,17 +28,18 @@ use Rattle.promises.specs.NightsOfBothWays.{bothWaysNights}
 use Rattle.promises.specs.NightsOfDrops.{repairNights, dropNights}
 use Rattle.promises.specs.NightsOfManifolds.{manifoldNights}
 use Rattle.promises.specs.NightsOfEight.{eightManifoldNights}
+use Rattle.promises.specs.NightsOfClosedValves.{closedValveNights}
 use Rattle.promises.specs.NightsOfPaths.{pathNights}
 use Rattle.promises.specs.NightsOfLostValves.{lostValveNights}
 use Rattle.promises.specs.Nights.{wires, starredNights, nights}
 use Rattle.promises.proofs.NightRefusals.{holds-by}
 
 -- whoever unfolds this unfolds every definition that a night computes with
-computed : Unit {0}
+unfoldable pub computed : Unit {0}
 unfolding bit without meets withBit pack any every each table mapped overlap refused isMajor missedMajor following judgedAt judged pathLost
-    recovered gapped offFailure manifold passed manifolds requested leakWord badJets closeBits rechecked onFailure kept minorSteps
-    majorSteps minorCycle majorCycle weighed weighedAll freshHall started minorStrings majorStrings taken bothWays unlessBothWays verdictOn
-    stepped rowOf markOf total sumOf reservedZero quantitiesRight goodMinor goodMajor markedLook look settle reads samplesOf
+    recovered gapped offFailure manifold passed manifolds requested behindClosed leakWord badJets closeBits rechecked onFailure kept
+    minorSteps majorSteps minorCycle majorCycle weighed weighedAll freshHall started minorStrings majorStrings taken bothWays unlessBothWays
+    verdictOn stepped rowOf markOf total sumOf reservedZero quantitiesRight goodMinor goodMajor markedLook look settle reads samplesOf
     minorOf wordsAt temperaturesOf requestsOf quantitiesOf majorOf valuesOf isWhole stepOf parts headOf stringBytes stringsBytes balanceOf
     lesserBytes banksBytes reportOf startedOver called call outcomes beforeRefusals afterRefusals calls cycles warmWords
 computed = tt
@@ -79,11 +80,15 @@ nights-hold-of-drops = (refl, (refl, (refl, (refl, (refl, (refl, (refl, tt))))))
 
 nights-hold-of-manifolds : EachHolds manifoldNights
 unfolding computed manifoldNights
-nights-hold-of-manifolds = (refl, (refl, (refl, (refl, (refl, (refl, tt))))))
+nights-hold-of-manifolds = (refl, (refl, (refl, (refl, (refl, tt)))))
 
 nights-hold-of-eight : EachHolds eightManifoldNights
 unfolding computed eightManifoldNights
 nights-hold-of-eight = (refl, (refl, (refl, (refl, tt))))
+
+nights-hold-of-closed-valves : EachHolds closedValveNights
+unfolding computed closedValveNights
+nights-hold-of-closed-valves = (refl, (refl, (refl, (refl, (refl, (refl, (refl, (refl, (refl, tt)))))))))
 
 nights-hold-of-paths : EachHolds pathNights
 unfolding computed pathNights
@@ -110,4 +115,5 @@ nights-hold =
     (both-hold frozenNights _ nights-hold-frozen
     (both-hold bothWaysNights _ nights-hold-of-both-ways
     (both-hold repairNights _ nights-hold-of-repairs
-    (both-hold dropNights eightManifoldNights nights-hold-of-drops nights-hold-of-eight))))))))))
+    (both-hold dropNights _ nights-hold-of-drops
+    (both-hold eightManifoldNights closedValveNights nights-hold-of-eight nights-hold-of-closed-valves)))))))))))

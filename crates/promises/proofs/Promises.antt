@@ -18,6 +18,7 @@ use Rattle.cycle.specs.Records.{Record, minor}
 use Rattle.cycle.specs.Hall.{sampleOf, stringOf, freshHall, stepped}
 use Rattle.cycle.specs.Views.{jetOf}
 use Rattle.cycle.specs.Proper.{ProperHall}
+use Rattle.cycle.specs.ShutOut.{ShutOutJet, ShutOutHall}
 use Rattle.cycle.specs.BothWays.{NamedBothWays, NoneBefore}
 use Rattle.cycle.specs.Turns.{TurnByTurn, Shaped, beforeTurns}
 use Rattle.cycle.specs.Unmapped.{Alike, UnmappedNone}
@@ -31,6 +32,7 @@ use Rattle.cycle.specs.declared.map.Masks.{Masks}
 use Rattle.cycle.specs.declared.string.StringState.{StringState}
 use Rattle.cycle.specs.declared.values.Minor.{Minor}
 use Rattle.cycle.proofs.Close.{asks-third}
+use Rattle.cycle.proofs.ShutOut as shutOut
 use Rattle.cycle.proofs.HallStrings as halls
 use Rattle.cycle.proofs.Verdicts as verdicts
 use Rattle.cycle.proofs.Turns as turns
@@ -38,6 +40,7 @@ use Rattle.cycle.proofs.TurnsTaken as turning
 use Rattle.cycle.proofs.UnmappedAlike as alike
 use Rattle.feed.specs.Bytes.{four}
 use Rattle.feed.specs.Heard.{Heard, Each, jetHeard, BadSaid, DropCarriedOut}
+use Rattle.feed.specs.SaidClosed.{RememberedClosed}
 use Rattle.feed.specs.Settled.{recordIn}
 use Rattle.feed.specs.Answered.{BothWaysSaid, Condition, Leaves, Read, Starts}
 use Rattle.feed.specs.Call.{holds, Result, startedOver, call, runs}
@@ -62,6 +65,7 @@ use Rattle.feed.proofs.Reports.CloseFirst as close
 use Rattle.feed.proofs.Reports.BadTaken as bad
 use Rattle.feed.proofs.Reports.KindsTaken as kinds
 use Rattle.feed.proofs.Reports.OneWay as oneWay
+use Rattle.feed.proofs.Reports.ClosedFailed as closed
 use Rattle.feed.proofs.Calls.Batches.{batch-continues}
 
 -- ---- Demand 1: "The refusals are numbered, each given under its stated condition and no other; after one, monitor and outbox are as the
@@ -188,6 +192,26 @@ module _ (masks : List Masks) (words : FitMap masks) (accepted : refused stringC
       → Each (λ t. (dropsAt (jetHeard s i j t) ≡ true) ↔ DropCarriedOut s i (t .bytes)) (takenRecords masks cs)
   drop-said = kinds.drop-taken masks words accepted
 
+  -- 02, order 8: "show, over all runs, that after every taken record each jet on a manifold remembered as closed is in the fail word".
+  -- Jet j on manifold i of string s, after any calls; path faults, recovery, gaps and overrides included.
+  module _ (s i j : ℕ) (string : s < 4) (manifold : i < 8) (stands : inMask (masksOf masks s) i j) where
+    -- "remembered as closed", by the bytes of the records taken: the valve bit is clear in the newest that has the path bit clear (of a
+    -- manifold that has a jet, as all of this)
+    pub remembered-closed : (cs : List Made)
+        → (bit i ((stringOf ((monitorAfter masks cs) .hall) s) .standing .valves) ≡ false) ↔ RememberedClosed s i (takenRecords masks cs)
+    remembered-closed = closed.remembered-closed masks words accepted s i j string manifold stands
+
+    -- in the hall
+    pub hall-closed-failed : (cs : List Made) → bit i ((stringOf ((monitorAfter masks cs) .hall) s) .standing .valves) ≡ false
+        → bit j ((stringOf ((monitorAfter masks cs) .hall) s) .standing .fail) ≡ true
+    hall-closed-failed = closed.hall-closed-failed masks words accepted s i j string manifold stands
+
+    -- in the bytes of every report, also one that answers 1 to 4 or 7
+    pub report-closed-failed : (c : Made) (cs : List Made) → writesReport (answerOf masks c cs) ≡ true
+        → bit i ((stringOf ((monitorAfter masks (c ∷ cs)) .hall) s) .standing .valves) ≡ false
+        → bit j (four (reportIn masks c cs) (7 + 5 * s)) ≡ true
+    report-closed-failed = closed.report-closed-failed masks words accepted s i j string manifold stands
+
   -- Demand 3, close, for manifold i of string s. 02, order 6: "Demand 3 now speaks of the first close since fresh, or at or after the last
   -- drop carried out, that cycle included; the three bad major cycles may reach back before the drop." 02, order 4: "A record so refused is
   -- not taken, so for demand 3 that major cycle is missed, unless a later record for the same cycle is taken.": `both-ways-missed`, below
@@ -222,7 +246,15 @@ pub both-ways-missed : (masks : List Masks) (c : Made) (cs : List Made) → answ
     → (takenRecords masks (c ∷ cs) ≡ takenRecords masks cs) × ((monitorAfter masks (c ∷ cs)) .hall ≡ (monitorAfter masks cs) .hall)
 both-ways-missed = oneWay.both-ways-missed
 
--- ---- The local law of the close
+-- ---- The local laws
+
+-- 02, order 8, of one jet by its rules alone, over every history: where its valve is remembered as closed it is failed; and no re-enable is
+-- in force for it, and the good copy has it so too
+pub jet-closed-failed : (h : List JetRecord) → (run h) .standing .valve ≡ false → (run h) .standing .fail ≡ true
+jet-closed-failed h = shutOut.run-shut-out h .standing .failed
+
+pub jet-shut-out : (h : List JetRecord) → ShutOutJet (run h)
+jet-shut-out = shutOut.run-shut-out
 
 -- a jet asks for the close at a taken record if and only if the record is the third of three as demand 3 words it
 pub jet-asks : (h : List JetRecord) (r : JetRecord) → Rising (r ∷ h) → (asksAt (reached h) r (run h) ≡ true) ↔ Third r h
@@ -239,6 +271,16 @@ calls-proper = handed.calls-proper
 
 pub call-proper : (m : Monitor) (piece out : List ℕ) → ProperHall (m .hall) → ProperHall ((call m piece out) .outcome .monitor .hall)
 call-proper = handed.call-proper
+
+-- 02, order 8: in a fresh hall over an accepted map jets behind closed valves are failed, in what is remembered and in the good copy, with
+-- no re-enable in force, and every call keeps a proper hall so
+pub calls-shut-out : (masks : List Masks) → FitMap masks → refused stringCount masks ≡ false → (cs : List Made)
+    → ShutOutHall ((monitorAfter masks cs) .hall)
+calls-shut-out = handed.calls-shut-out
+
+pub call-shut-out : (m : Monitor) (piece out : List ℕ) → ProperHall (m .hall) → ShutOutHall (m .hall)
+    → ShutOutHall ((call m piece out) .outcome .monitor .hall)
+call-shut-out = handed.call-shut-out
 
 module _ (m : Monitor) (piece out : List ℕ) (proper : ProperHall (m .hall)) (taken : (call m piece out) .outcome .answer ≡ Taken) (s i : ℕ)
     (string : s < 4) (manifold : i < 8) where

@@ -9,6 +9,7 @@ pub mod NightsOfBothWays
 pub mod NightsOfDrops
 pub mod NightsOfManifolds
 pub mod NightsOfEight
+pub mod NightsOfClosedValves
 pub mod NightsOfPaths
 pub mod NightsOfLostValves
 pub mod Nights

@@ -18,6 +18,7 @@ use Rattle.promises.specs.NightsOfBothWays.{bothWaysNights}
 use Rattle.promises.specs.NightsOfDrops.{repairNights, dropNights}
 use Rattle.promises.specs.NightsOfManifolds.{manifoldNights}
 use Rattle.promises.specs.NightsOfEight.{eightManifoldNights}
+use Rattle.promises.specs.NightsOfClosedValves.{closedValveNights}
 use Rattle.promises.specs.NightsOfPaths.{pathNights}
 use Rattle.promises.specs.NightsOfLostValves.{lostValveNights}
 
@@ -127,7 +128,7 @@ unfoldable pub starredNights : List Night
 starredNights = firstRecord ∷ failsOff ∷ failsOffAfterGap ∷ failsOn ∷ failsOnAfterGap ∷ valveCloses ∷ wireWraps ∷ quantitiesBalance ∷ []
 
 -- the single list: those that 01 marks, as 02 amends them; those that pin each step where no law does; and those of 02, order 3, from
--- bytes to the close bit, and orders 4, 6 and 7
+-- bytes to the close bit, and orders 4, 6, 7 and 8
 unfoldable pub nights : List Night
 nights =
     starredNights
@@ -135,4 +136,6 @@ nights =
     ++ (jetNights
     ++ (requestNights
     ++ (manifoldNights
-    ++ (pathNights ++ (lostValveNights ++ (frozenNights ++ (bothWaysNights ++ (repairNights ++ (dropNights ++ eightManifoldNights))))))))))
+    ++ (pathNights
+    ++ (lostValveNights
+    ++ (frozenNights ++ (bothWaysNights ++ (repairNights ++ (dropNights ++ (eightManifoldNights ++ closedValveNights)))))))))))

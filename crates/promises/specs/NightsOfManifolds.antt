@@ -42,21 +42,6 @@ inhibitedFailOnOpening =
     ∷ at 28 0x00 (valves 0xFF) 0x00000001 0x00
     ∷ [])
 
--- A re-enable lapses when the valve closes, not when it opens: jet 1 is re-enabled while its valve is closed, and commanded without
--- pressure from its opening at 26 on: it does not fail. The valve closes at 29 and opens: jet 1 fails at 31
-abbrev pub reenableStaysOnOpening : Night
-reenableStaysOnOpening =
-    feeding nightMap
-    (at 24 0x00 (valves 0xFE) 0x0000000F 0x00
-    ∷ at 25 0x00 (requestingAt 0xFE 0x00000000 0x00000002) 0x0000000D 0x00
-    ∷ at 26 0x00 (commanding 0x00000002) 0x00000000 0x00
-    ∷ at 27 0x00 (commanding 0x00000002) 0x00000000 0x00
-    ∷ at 28 0x00 (commanding 0x00000002) 0x00000000 0x00
-    ∷ at 29 0x00 (commandingAt 0xFE 0x00000002) 0x0000000F 0x00
-    ∷ at 30 0x00 (commanding 0x00000002) 0x00000000 0x00
-    ∷ at 31 0x00 (commanding 0x00000002) 0x00000002 0x00
-    ∷ [])
-
 -- An inhibit stays when the valve closes: jet 0 is inhibited while its valve is closed; the valve opens and closes. After the path fault of
 -- 28 the saved set of 25, all four jets, comes back and leaves the fail word at 30: jet 0 is failed by its inhibit
 abbrev pub inhibitStaysOnClosing : Night
@@ -85,5 +70,4 @@ slotsShiftWhileClosed =
 
 unfoldable pub manifoldNights : List Night
 manifoldNights =
-    manifoldsMoveTogether ∷ reenablesOfOneManifoldLapse ∷ reenableStaysOnOpening ∷ inhibitedFailOnOpening ∷ inhibitStaysOnClosing
-    ∷ slotsShiftWhileClosed ∷ []
+    manifoldsMoveTogether ∷ reenablesOfOneManifoldLapse ∷ inhibitedFailOnOpening ∷ inhibitStaysOnClosing ∷ slotsShiftWhileClosed ∷ []

@@ -5,7 +5,7 @@ use mathlib.Core.List.{List, [], _∷_}
 use Rattle.promises.specs.NightRecords.{nightMap}
 use Rattle.promises.specs.NightHolds.{Night, feeding}
 use Rattle.promises.specs.NightBytes.{twoStringMap, at, atBoth, shows, quiet, commanding, driving, valves, requesting}
-use Rattle.promises.specs.NightBytes.{commandingAt, drivingAt}
+use Rattle.promises.specs.NightBytes.{threeManifoldMap, commandingAt, drivingAt}
 
 -- 8. "(000 takes it before step 5; here it is last.)" Jet 1 failed off and is re-enabled at 25; its valve closes at 26, which ends the
 -- re-enable; path fault at 27. At 28 the fail word of 25 comes back as it was after the requests, without jet 1. The re-enable does
@@ -55,20 +55,20 @@ oneStringRecovers =
     ∷ atBoth 8 0x00 quiet quiet (shows 0x00000001 0x00) (shows 0x00000000 0x00)
     ∷ [])
 
--- 1. "overrides and close byte stay": jet 1 is bad at 25, 50 and 75, which sets the close bit. The valve has been closed since 74; at 75
--- jet 3 is inhibited and jet 0 re-enabled; path fault at 76. The valve opens at 78: jet 3, of the saved set, is failed by its inhibit;
--- jet 0 is commanded without pressure at 77, 78 and 79 and does not fail
+-- 1. "overrides and close byte stay": jet 1 is bad at 25, 50 and 75, which sets the close bit. Its manifold's valve has been closed since
+-- 74; at 75 jet 3 is inhibited, and jet 4, of another manifold, re-enabled; path fault at 76. The valve opens at 78: jet 3, of the saved
+-- set, is failed by its inhibit; jet 4 is commanded without pressure at 77, 78 and 79 and does not fail
 abbrev pub overridesStayOverFault : Night
 overridesStayOverFault =
-    feeding nightMap
+    feeding threeManifoldMap
     (at 25 0x00 (driving 0x00000002) 0x00000000 0x00
     ∷ at 50 0x00 (driving 0x00000002) 0x00000002 0x00
     ∷ at 74 0x00 (valves 0xFE) 0x0000000F 0x00
-    ∷ at 75 0x00 (drivingAt 0xFE 0x00000002 0x00000008 0x00000001) 0x0000000E 0x01
-    ∷ at 76 0x01 quiet 0x0000000E 0x01
-    ∷ at 77 0x00 (commandingAt 0xFE 0x00000001) 0x0000000E 0x01
-    ∷ at 78 0x00 (commanding 0x00000001) 0x0000000A 0x01
-    ∷ at 79 0x00 (commanding 0x00000001) 0x0000000A 0x01
+    ∷ at 75 0x00 (drivingAt 0xFE 0x00000002 0x00000008 0x00000010) 0x0000000F 0x01
+    ∷ at 76 0x01 quiet 0x0000000F 0x01
+    ∷ at 77 0x00 (commandingAt 0xFE 0x00000010) 0x0000000F 0x01
+    ∷ at 78 0x00 (commanding 0x00000010) 0x0000000A 0x01
+    ∷ at 79 0x00 (commanding 0x00000010) 0x0000000A 0x01
     ∷ [])
 
 -- 1. "nothing else of the string changes and its requests are lost": those of string 0 at 25 and 75, then and later; those of string 1 in

@@ -1,7 +1,7 @@
 //! The cases that the refusal of jets named both ways has to meet, and how often it did.
 
 use crate::cases::{only, Cases, Named};
-use crate::feed::records;
+use crate::feed::play;
 use crate::hall::{Hall, BOTH_WAYS, COUNT_ENDED, OUTBOX_SHORT, REPEAT, STALE, TAKEN, WRONG_KIND};
 use crate::jet::{bit, Jet};
 use crate::reader::look;
@@ -88,14 +88,8 @@ impl BothWaysCases {
 
     /// What the program reads for a night.
     pub fn add_feed(&mut self, input: &[u8]) {
-        let (masks, records) = records(input);
-        let mut hall = Hall::fresh(&masks);
         self.begin();
-        for record in &records {
-            let before = hall.clone();
-            let answer = hall.settle(record);
-            self.add(answer, &before, record);
-        }
+        play(input, |answer, before, record, _| self.add(answer, before, record));
     }
 
     /// The next record is for another hall.

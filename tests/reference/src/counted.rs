@@ -2,6 +2,7 @@
 
 use crate::both_ways_cases::BothWaysCases;
 use crate::claim_cases::ClaimCases;
+use crate::closed_valve_cases::ClosedValveCases;
 use crate::drop_cases::DropCases;
 use crate::hall::{Hall, TAKEN};
 use crate::leak_cases::LeakCases;
@@ -17,6 +18,7 @@ pub struct Counted {
     pub both_ways: BothWaysCases,
     pub drops: DropCases,
     pub manifolds: ManifoldCases,
+    pub closed_valves: ClosedValveCases,
     pub lost: LostCases,
     /// No feed hands in a state.
     pub claims: Option<ClaimCases>,
@@ -29,6 +31,7 @@ impl Counted {
             both_ways: BothWaysCases::of_feeds(),
             drops: DropCases::of_feeds(),
             manifolds: ManifoldCases::default(),
+            closed_valves: ClosedValveCases::of_feeds(),
             lost: LostCases::default(),
             claims: None,
         }
@@ -40,6 +43,7 @@ impl Counted {
             both_ways: BothWaysCases::of_halls(),
             drops: DropCases::of_halls(),
             manifolds: ManifoldCases::default(),
+            closed_valves: ClosedValveCases::of_halls(),
             lost: LostCases::default(),
             claims: Some(ClaimCases::default()),
         }
@@ -51,6 +55,7 @@ impl Counted {
         self.both_ways.add_feed(input);
         self.drops.add_feed(input);
         self.manifolds.add_feed(input);
+        self.closed_valves.add_feed(input);
         self.lost.add_feed(input);
     }
 
@@ -58,6 +63,7 @@ impl Counted {
     pub fn begin(&mut self, hall: &Hall) {
         self.both_ways.begin();
         self.drops.begin();
+        self.closed_valves.begin();
         self.manifolds.add_map(&masks_of(hall));
     }
 
@@ -76,6 +82,7 @@ impl Counted {
             self.both_ways.add(answer, before, record);
             self.drops.add(answer, before, record, after);
             self.manifolds.add(answer, before, record, after);
+            self.closed_valves.add(answer, before, record, after);
             if answer == TAKEN {
                 self.leaks.add_call(record, after);
             }
@@ -88,6 +95,7 @@ impl Counted {
         self.both_ways.each_met(least)?;
         self.drops.each_met(least)?;
         self.manifolds.each_met(least)?;
+        self.closed_valves.each_met(least)?;
         self.lost.each_met(least)?;
         self.claims.iter().try_for_each(|claims| claims.each_met(least))
     }
@@ -99,6 +107,7 @@ impl fmt::Display for Counted {
         write!(lines, "jets named both ways:\n{}", self.both_ways)?;
         write!(lines, "close bits dropped:\n{}", self.drops)?;
         write!(lines, "manifolds:\n{}", self.manifolds)?;
+        write!(lines, "re-enables behind closed valves:\n{}", self.closed_valves)?;
         write!(lines, "records lost:\n{}", self.lost)?;
         self.claims.iter().try_for_each(|claims| write!(lines, "claims of held bytes:\n{claims}"))
     }

@@ -1,7 +1,7 @@
 //! The cases that the dropping of close bits has to meet, and how often it did.
 
 use crate::cases::{each, only, Cases, Manifolds, Named, EACH_MANIFOLD};
-use crate::feed::records;
+use crate::feed::play;
 use crate::hall::{Hall, BOTH_WAYS, COUNT_ENDED, OUTBOX_SHORT, REPEAT, STALE, TAKEN, WRONG_KIND};
 use crate::jet::{ALL_MANIFOLDS, MANIFOLDS};
 use crate::record::Record;
@@ -95,14 +95,8 @@ impl DropCases {
 
     /// What the program reads for a night.
     pub fn add_feed(&mut self, input: &[u8]) {
-        let (masks, records) = records(input);
-        let mut hall = Hall::fresh(&masks);
         self.begin();
-        for record in &records {
-            let before = hall.clone();
-            let answer = hall.settle(record);
-            self.add(answer, &before, record, &hall);
-        }
+        play(input, |answer, before, record, after| self.add(answer, before, record, after));
     }
 
     /// The next record is for another hall.

@@ -1,6 +1,6 @@
 //! Runs over whole feeds, as the program does.
 
-use crate::hall::{Masks, EMPTY_MAP, NOTHING_SETTLED, TAKEN};
+use crate::hall::{Hall, Masks, EMPTY_MAP, NOTHING_SETTLED, TAKEN};
 use crate::jet::MANIFOLDS;
 use crate::monitor::Monitor;
 use crate::reader::look_and_tell;
@@ -75,4 +75,15 @@ pub fn records_and_lost(input: &[u8], mut lost: impl FnMut(&[u8])) -> (Masks, Ve
         }
     }
     (masks_from(masks), records)
+}
+
+/// Plays the records that settle, from fresh, and shows each: its answer, and the hall before it and after it.
+pub fn play(input: &[u8], mut show: impl FnMut(u8, &Hall, &Record, &Hall)) {
+    let (masks, records) = records(input);
+    let mut hall = Hall::fresh(&masks);
+    for record in &records {
+        let before = hall.clone();
+        let answer = hall.settle(record);
+        show(answer, &before, record, &hall);
+    }
 }

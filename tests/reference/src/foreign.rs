@@ -233,11 +233,14 @@ fn one_way(mut record: Record, hall: &Hall, random: &mut Random) -> Record {
     record
 }
 
-/// The record for the next major cycle, with other drops.
+/// The record for the next major cycle, with other drops, and often without requests for jets.
 fn at_next_major(mut record: Record, random: &mut Random) -> Record {
     record.wire = record.wire.wrapping_add(25);
     for string in record.major.iter_mut().flat_map(|major| &mut major.strings) {
         string.drops = if random.one_in(2) { 0 } else { drops(random) };
+        if random.one_in(2) {
+            (string.inhibit, string.re_enable) = (0, 0);
+        }
     }
     record
 }

@@ -35,6 +35,8 @@ pub struct ForeignCases {
     pub failed_off: u64,
     pub inhibited: u64,
     pub re_enabled: u64,
+    /// Behind a valve that the record has closed.
+    pub re_enabled_in_vain: u64,
     /// Requests for jets in no mask.
     pub named_in_vain: u64,
     pub leaking: u64,
@@ -74,7 +76,7 @@ impl ForeignCases {
             self.add_manifolds(before, record.strings[s].valves.into());
             self.failed_off += count(&after.jets, |jet| jet.off_slots == [true; 3]);
             if let Some(major) = &record.major {
-                self.add_requests(before, &major.strings[s]);
+                self.add_requests(before, record.strings[s].valves.into(), &major.strings[s]);
                 self.leaking += count(&after.jets, |jet| {
                     jet.is_mapped() && leaks(major.strings[s].temperatures[jet.number])
                 });
@@ -107,16 +109,17 @@ impl ForeignCases {
         self.jets_moved_twice += count(&before.jets, twice);
     }
 
-    fn add_requests(&mut self, before: &JetString, major: &StringMajor) {
+    fn add_requests(&mut self, before: &JetString, valves: u32, major: &StringMajor) {
         for jet in &before.jets {
-            let place =
-                match (jet.is_mapped(), bit(major.inhibit, jet.number), bit(major.re_enable, jet.number)) {
-                    (_, false, false) => continue,
-                    (false, _, _) => &mut self.named_in_vain,
-                    (true, true, false) => &mut self.inhibited,
-                    (true, false, true) => &mut self.re_enabled,
-                    (true, true, true) => unreachable!("the record would not be taken"),
-                };
+            let is_named = [major.inhibit, major.re_enable].map(|word| bit(word, jet.number));
+            let place = match is_named {
+                [false, false] => continue,
+                _ if !jet.is_mapped() => &mut self.named_in_vain,
+                [true, true] => unreachable!("the record would not be taken"),
+                [true, false] => &mut self.inhibited,
+                [false, true] if jet.is_behind_closed(valves) => &mut self.re_enabled_in_vain,
+                [false, true] => &mut self.re_enabled,
+            };
             *place += 1;
         }
     }

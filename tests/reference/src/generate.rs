@@ -3,18 +3,18 @@
 
 use crate::feed::{masks_bytes, MASKS_LENGTH};
 use crate::hall::Masks;
-use crate::maps::{masks, one_jet_of_each};
+use crate::maps::masks;
 use crate::random::Random;
 use crate::record::{sum, Record, MAJOR, MAJOR_LENGTH, MARK, MINOR, MINOR_LENGTH};
-use crate::world::{drops, name_both_ways, reserve_a_path_bit, telling_leaks, Chances, World};
+use crate::world::{name_both_ways, reserve_a_path_bit, Chances, World};
 
 #[derive(Clone, Debug)]
 pub struct Night {
-    random: Random,
+    pub(crate) random: Random,
     chances: Chances,
-    world: World,
+    pub(crate) world: World,
     /// The cycle of the last good record sent; the monitor's n, unless its count has ended.
-    cycle: u64,
+    pub(crate) cycle: u64,
     last: Vec<u8>,
     pub damaged: u64,
 }
@@ -31,6 +31,7 @@ pub fn input(seed: u64, size: usize) -> (Vec<u8>, u64) {
     let begins_with_leaks = random.one_in(2);
     let begins_both_ways = random.one_in(4);
     let begins_with_drops = !random.one_in(3);
+    let begins_behind_valves = !random.one_in(3);
     let mut night = Night::after(0, &masks, random);
     if begins_with_leaks {
         bytes.extend(night.leaks());
@@ -40,6 +41,9 @@ pub fn input(seed: u64, size: usize) -> (Vec<u8>, u64) {
     }
     if begins_with_drops {
         bytes.extend(night.drops(&masks));
+    }
+    if begins_behind_valves {
+        bytes.extend(night.behind_valves(&masks));
     }
     if begins_late {
         bytes.extend(night.travel());
@@ -57,79 +61,6 @@ impl Night {
         let chances = Chances::drawn(&mut random);
         let last = Record::quiet(n.into()).bytes();
         Night { random, chances, world: World::over(masks), cycle: n.into(), last, damaged: 0 }
-    }
-
-    /// Nothing but majors of an idle hall. Leaks last for two of them, so that jets fail.
-    fn leaks(&mut self) -> Vec<u8> {
-        let mut feed = Vec::new();
-        let strings = self.world.mapped.map(|mapped| telling_leaks(mapped, &mut self.random));
-        for turn in 0..4 {
-            self.world.leak(strings.map(|leaks| leaks[turn]));
-            feed.extend([self.good(self.cycle + 25), self.good(self.cycle + 25)].concat());
-        }
-        self.world.leak([0; 4]);
-        feed
-    }
-
-    /// Majors of a hall in which jets of one string leak. The third, which would close manifolds, names jets
-    /// both ways: they close when its cycle is sent again, or by three majors more where it is missed.
-    fn third_leak_both_ways(&mut self) -> Vec<u8> {
-        let leaking = self.random.index(4);
-        let mut strings = [0; 4];
-        strings[leaking] = telling_leaks(self.world.mapped[leaking], &mut self.random)[3];
-        self.world.leak(strings);
-        let mut feed = [self.good(self.cycle + 25), self.good(self.cycle + 25)].concat();
-        feed.extend(self.both_ways(self.cycle + 25).iter().flat_map(Record::bytes));
-        for _ in 0..3 {
-            feed.extend(self.good(self.cycle + 25 - self.cycle % 25));
-        }
-        self.world.leak([0; 4]);
-        feed
-    }
-
-    /// Majors of a hall in which one jet of each manifold leaks in most of them, so that manifolds close and are
-    /// dropped, some under a path fault. Some are spoilt first, and then sent again.
-    fn drops(&mut self, masks: &Masks) -> Vec<u8> {
-        let mut feed = Vec::new();
-        let jets = masks.map(one_jet_of_each);
-        for turn in 0..24 {
-            let most = |random: &mut Random| if turn < 3 { u32::MAX } else { random.word() | random.word() };
-            self.world.leak(jets.map(|jets| jets & most(&mut self.random)));
-            let missed = if turn < 3 { 0 } else { self.random.pick(&[0, 0, 0, 0, 0, 0, 0, 1]) };
-            let cycle = self.cycle + 25 * (1 + missed) - self.cycle % 25;
-            let mut record = self.record(cycle);
-            for (s, string) in record.major.iter_mut().flat_map(|major| &mut major.strings).enumerate() {
-                string.drops = if turn < 3 || self.random.one_in(3) { 0 } else { drops(&mut self.random) };
-                record.path |= u8::from(turn > 2 && self.random.one_in(4)) << s;
-            }
-            feed.extend(self.before_drops(&record).iter().flat_map(Record::bytes));
-            feed.extend(record.bytes());
-            self.good_is_sent(cycle, record.bytes());
-        }
-        self.world.leak([0; 4]);
-        feed
-    }
-
-    /// The record with a reserved path bit, or with jets named both ways, or mostly none.
-    fn before_drops(&mut self, record: &Record) -> Vec<Record> {
-        let mut spoilt = record.clone();
-        match self.random.below(6) {
-            0 | 1 => reserve_a_path_bit(&mut spoilt, &mut self.random),
-            2 => name_both_ways(&mut spoilt, self.world.mapped, &mut self.random),
-            _ => return Vec::new(),
-        }
-        vec![spoilt]
-    }
-
-    /// Goes on in long jumps to just before the wire cycle wraps.
-    fn travel(&mut self) -> Vec<u8> {
-        let mut feed = Vec::new();
-        for _ in 0..2 + self.random.below(3) {
-            let left = 65_536 - self.cycle % 65_536;
-            let short_of = self.random.below(left.min(30));
-            feed.extend(self.good(self.cycle + (left - short_of).min(32_767)));
-        }
-        feed
     }
 
     /// The next good record, and what the line puts before it.
@@ -180,11 +111,11 @@ impl Night {
         self.cycle + on
     }
 
-    fn record(&mut self, cycle: u64) -> Record {
+    pub(crate) fn record(&mut self, cycle: u64) -> Record {
         self.world.record(cycle, &self.chances, &mut self.random)
     }
 
-    fn good(&mut self, cycle: u64) -> Vec<u8> {
+    pub(crate) fn good(&mut self, cycle: u64) -> Vec<u8> {
         self.good_record(cycle).bytes()
     }
 
@@ -194,14 +125,14 @@ impl Night {
         record
     }
 
-    fn good_is_sent(&mut self, cycle: u64, bytes: Vec<u8>) {
+    pub(crate) fn good_is_sent(&mut self, cycle: u64, bytes: Vec<u8>) {
         self.cycle = cycle;
         self.last = bytes;
     }
 
     /// One or two major records that name jets both ways, then a good one: of the same cycle and with the
     /// same values but for that, or of the next cycle.
-    fn both_ways(&mut self, cycle: u64) -> Vec<Record> {
+    pub(crate) fn both_ways(&mut self, cycle: u64) -> Vec<Record> {
         let good = self.record(cycle);
         let mut records = Vec::new();
         for _ in 0..self.random.pick(&[1, 1, 1, 2]) {

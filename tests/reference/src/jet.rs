@@ -31,6 +31,11 @@ impl Jet {
     pub fn is_mapped(&self) -> bool {
         self.manifolds.contains(&true)
     }
+
+    /// One of its manifolds has no bit in this word of valves.
+    pub fn is_behind_closed(&self, valves: u32) -> bool {
+        (0..MANIFOLDS).any(|manifold| self.manifolds[manifold] && !bit(valves, manifold))
+    }
 }
 
 /// Jet `number` is that bit of a word, bit 0 the lowest.

@@ -149,15 +149,17 @@ impl JetString {
         }
     }
 
-    /// Step 5. Requests for jets in no mask are ignored. Of a jet named both ways, which no taken record has,
-    /// the inhibit is looked at first.
+    /// Step 5. Requests for jets in no mask are ignored, and so is a re-enable for a jet "on a manifold remembered
+    /// as closed" (document 02, order 8). Of a jet named both ways, which no taken record has, the inhibit is looked
+    /// at first.
     fn requests(&mut self, major: &StringMajor) {
+        let valves = self.valves;
         for jet in self.jets.iter_mut().filter(|jet| jet.is_mapped()) {
             if bit(major.inhibit, jet.number) {
                 jet.inhibited = true;
                 jet.re_enabled = false;
                 jet.failed = true;
-            } else if bit(major.re_enable, jet.number) {
+            } else if bit(major.re_enable, jet.number) && !jet.is_behind_closed(valves) {
                 jet.re_enabled = true;
                 jet.inhibited = false;
                 jet.failed = false;

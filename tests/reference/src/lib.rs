@@ -16,9 +16,12 @@ pub mod report;
 pub mod state;
 pub mod writer;
 
+pub mod beginnings;
+pub mod behind;
 pub mod both_ways_cases;
 pub mod cases;
 pub mod claim_cases;
+pub mod closed_valve_cases;
 pub mod counted;
 pub mod dispatch;
 pub mod drop_cases;

@@ -1,7 +1,7 @@
 //! The cases that the manifolds of a string have to meet, and how often they did.
 
 use crate::cases::{each, only, Cases, Manifolds, Named, EACH_MANIFOLD};
-use crate::feed::records;
+use crate::feed::{play, records};
 use crate::hall::{Hall, Masks, TAKEN};
 use crate::jet::{bit, Jet, MANIFOLDS};
 use crate::jet_string::JetString;
@@ -52,14 +52,8 @@ impl Default for ManifoldCases {
 impl ManifoldCases {
     /// What the program reads for a night.
     pub fn add_feed(&mut self, input: &[u8]) {
-        let (masks, records) = records(input);
-        self.add_map(&masks);
-        let mut hall = Hall::fresh(&masks);
-        for record in &records {
-            let before = hall.clone();
-            let answer = hall.settle(record);
-            self.add(answer, &before, record, &hall);
-        }
+        self.add_map(&records(input).0);
+        play(input, |answer, before, record, after| self.add(answer, before, record, after));
     }
 
     pub fn add_map(&mut self, masks: &Masks) {

@@ -119,6 +119,19 @@ impl World {
         }
     }
 
+    /// One valve in six or so moves.
+    pub fn move_valves(&mut self, random: &mut Random) {
+        for string in &mut self.strings {
+            for manifold in 0..MANIFOLDS {
+                random.flip(&mut string.closed, manifold, 7, 5);
+            }
+        }
+    }
+
+    pub fn open_valves(&mut self) {
+        self.strings.iter_mut().for_each(|string| string.closed = 0);
+    }
+
     fn fill(&self, major: &mut Major, chances: &Chances, random: &mut Random) {
         for (s, string) in self.strings.iter().enumerate() {
             let words = &mut major.strings[s];

@@ -7,12 +7,14 @@ use mathlib.Core.Logic.{_⊎_, inl, inr}
 use Prim.Native.Nat.{ℕ, _+_, _*_, _<_, _≤_}
 use native.Mathlib.Omega.{arith}
 use lib.ListN.{length, getD, getD-replicate}
-use Rattle.cycle.specs.Size.{stringCount, moduleCount, lastCount}
+use Rattle.cycle.specs.Size.{stringCount, manifoldCount, moduleCount, lastCount}
 use Rattle.cycle.specs.Answers.{isTaken}
-use Rattle.cycle.specs.Map.{FitMap, refused}
+use Rattle.cycle.specs.Jets.{run}
+use Rattle.cycle.specs.Map.{masksOf, inMask, FitMap, refused}
 use Rattle.cycle.specs.Banks.{noBank, noQuantities}
 use Rattle.cycle.specs.Records.{Record, minor, major}
-use Rattle.cycle.specs.Hall.{freshHall, started, verdictOn, steppedBy, stepped}
+use Rattle.cycle.specs.Hall.{stringOf, freshHall, started, verdictOn, steppedBy, stepped}
+use Rattle.cycle.specs.Views.{jetOf}
 use Rattle.cycle.specs.Proper.{ProperHall}
 use Rattle.cycle.specs.Inside.Runs.{TakenRecord, bankBy}
 use Rattle.cycle.specs.declared.banks.Bank.{Bank}
@@ -22,6 +24,7 @@ use Rattle.cycle.specs.declared.map.Masks.{Masks}
 use Rattle.cycle.specs.declared.number.Verdict.{Verdict}
 use Rattle.cycle.specs.declared.number.Verdict.the-variants.{Takes, Refuses}
 use Rattle.cycle.specs.declared.values.Quantities.{Quantities}
+use Rattle.cycle.proofs.Maps.{in-word}
 use Rattle.cycle.proofs.Balance.{weighed-exactly}
 use Rattle.cycle.proofs.Verdicts.{verdict-follows}
 use Rattle.cycle.proofs.HallAgrees.{number-after, bank-after}
@@ -33,7 +36,7 @@ use Rattle.feed.specs.Good.{QuantitiesRight, WholeRecord}
 use Rattle.feed.specs.Settled.{hasRecord, recordIn, valuesIn}
 use Rattle.feed.specs.Call.{holds, Result, startedOver, called, call}
 use Rattle.feed.specs.Answered.{apart}
-use Rattle.feed.specs.Heard.{Heard, reachedBy}
+use Rattle.feed.specs.Heard.{Heard, reachedBy, jetHistory}
 use Rattle.feed.specs.Calls.{Made, monitorAfter, takenRecords}
 use Rattle.feed.specs.declared.call.Monitor.{Monitor}
 use Rattle.feed.proofs.Records.Lengths.{below-or}
@@ -99,6 +102,14 @@ pub record Kept (masks : List Masks) (h : Hall) (ts : List Heard) : Type 0 where
 -- n is the number that the records taken have reached
 pub kept-number : {masks : List Masks} {h : Hall} {ts : List Heard} → Kept masks h ts → h .n ≡ reachedBy ts
 kept-number kept = kept .run .told .number ∙ reached-carried (kept .carry)
+
+-- a mapped jet, by the records heard
+pub kept-jet : {masks : List Masks} {h : Hall} {ts : List Heard} → Kept masks h ts → (s i j : ℕ) → s < stringCount → i < manifoldCount
+    → inMask (masksOf masks s) i j → jetOf i j (stringOf h s) ≡ run (jetHistory s i j ts)
+kept-jet {masks} {h} {ts} kept s i j l below stands =
+    let here : inMask (masksOf (h .masks) s) i j = rw (kept .run .told .map) stands in
+    let word = in-word manifoldCount (masksOf (h .masks) s) (kept .run .proper .disjoint s l .fits) i j below here in
+    kept .run .told .jets s i j l below stands ∙ ap run (heard.history-carried s i j l word (kept .carry))
 
 -- the records heard, with the one that a call settled
 abbrev grown : Bool → List ℕ → List Heard → List Heard

@@ -17,6 +17,7 @@ use Rattle.cycle.specs.Map.{noMasks, masksOf, inMask, FitMap, refused}
 use Rattle.cycle.specs.Hall.{stringOf, started, stepped}
 use Rattle.cycle.specs.Views.{jetOf, jetRecord}
 use Rattle.cycle.specs.Proper.{ProperHall}
+use Rattle.cycle.specs.ShutOut.{ShutOutHall}
 use Rattle.cycle.specs.Unmapped.{UnmappedNone}
 use Rattle.cycle.specs.declared.answer.Answer.{Answer}
 use Rattle.cycle.specs.declared.answer.Answer.the-variants.{Taken}
@@ -27,6 +28,7 @@ use Rattle.cycle.proofs.Maps.{in-word}
 use Rattle.cycle.proofs.HallStrings.{stepped-proper}
 use Rattle.cycle.proofs.Runs.{drop-same}
 use Rattle.cycle.proofs.ProperSteps.{stepped-jet, stepped-close}
+use Rattle.cycle.proofs.ShutOutHalls.{fresh-hall-shut-out, stepped-shut-out}
 use Rattle.cycle.proofs.UnmappedNone.{AllNone, fresh-all-none, stepped-none}
 use Rattle.feed.specs.Size.{outboxNeeded}
 use Rattle.feed.specs.Settled.{recordIn, valuesIn}
@@ -40,7 +42,7 @@ use Rattle.feed.proofs.Records.HeardValues.{record-heard}
 use Rattle.feed.proofs.Records.DropHeard.{KindMarked, marked-by, drop-heard}
 use Rattle.feed.proofs.Calls.Calling.{call-called}
 use Rattle.feed.proofs.Calls.CallCases.{CallCase, none, some, call-case}
-use Rattle.feed.proofs.Calls.CallRuns.{calls-kept}
+use Rattle.feed.proofs.Calls.CallRuns.{started-hall, calls-kept}
 use Rattle.feed.proofs.Answers.Fixed.{short-call}
 use Rattle.feed.proofs.Answers.Answered.{answers-exactly}
 use Rattle.feed.proofs.Answers.Left.{call-leaves}
@@ -76,6 +78,14 @@ kept-by P m piece c keeps p (stepped-to x e h a) = subst P (sym (h ∙ ap (λ (y
 pub call-proper : (m : Monitor) (piece out : List ℕ) → ProperHall (m .hall) → ProperHall ((call m piece out) .outcome .monitor .hall)
 call-proper m piece out p =
     kept-by ProperHall m piece (call m piece out) (stepped-proper (valuesIn (holds m ++ piece))) p (hall-after m piece out)
+
+-- 02, order 8: in one where jets behind closed valves are out of use they stay so
+pub call-shut-out : (m : Monitor) (piece out : List ℕ) → ProperHall (m .hall) → ShutOutHall (m .hall)
+    → ShutOutHall ((call m piece out) .outcome .monitor .hall)
+call-shut-out m piece out p c =
+    kept-by (λ (h : Hall). ProperHall h × ShutOutHall h) m piece (call m piece out)
+    (λ h x. (stepped-proper (valuesIn (holds m ++ piece)) h (x .0), stepped-shut-out (valuesIn (holds m ++ piece)) h (x .0) (x .1))) (p, c)
+    (hall-after m piece out) .1
 
 module _ (m : Monitor) (piece out : List ℕ) (p : ProperHall (m .hall)) (t : (call m piece out) .outcome .answer ≡ Taken) (s i : ℕ)
     (l : s < stringCount) (below : i < manifoldCount) where
@@ -171,6 +181,13 @@ module _ (m : Monitor) (piece out : List ℕ) (p : ProperHall (m .hall)) (t : (c
 pub calls-proper : (masks : List Masks) → FitMap masks → refused stringCount masks ≡ false → (cs : List Made)
     → ProperHall ((monitorAfter masks cs) .hall)
 calls-proper masks fit accepted cs = calls-kept masks fit accepted cs .run .proper
+
+pub calls-shut-out : (masks : List Masks) → FitMap masks → refused stringCount masks ≡ false → (cs : List Made)
+    → ShutOutHall ((monitorAfter masks cs) .hall)
+unfolding monitorAfter
+calls-shut-out masks fit accepted [] = rw (started-hall masks accepted) (fresh-hall-shut-out masks fit accepted)
+calls-shut-out masks fit accepted (c ∷ cs) =
+    call-shut-out (monitorAfter masks cs) (c .piece) (c .outbox) (calls-proper masks fit accepted cs) (calls-shut-out masks fit accepted cs)
 
 fresh-none : (masks : List Masks) → AllNone ((startedOver masks) .monitor .hall)
 unfolding startedOver started

@@ -15,18 +15,17 @@ use Rattle.bits.proofs.Yes.{not-both}
 use Rattle.bits.proofs.Words.{any-same}
 use Rattle.cycle.specs.Size.{stringCount, jetCount, manifoldCount, moduleCount}
 use Rattle.cycle.specs.Answers.{writesReport}
-use Rattle.cycle.specs.Jets.{JetRecord, run, askedSinceDrop}
+use Rattle.cycle.specs.Jets.{JetRecord, askedSinceDrop}
 use Rattle.cycle.specs.Map.{masksOf, inMask, FitMap, mapped, refused}
 use Rattle.cycle.specs.Banks.{noBank}
 use Rattle.cycle.specs.Hall.{stringOf}
-use Rattle.cycle.specs.Views.{jetOf}
 use Rattle.cycle.specs.Inside.Runs as runs
 use Rattle.cycle.specs.declared.answer.Answer.{Answer}
 use Rattle.cycle.specs.declared.banks.Bank.{Bank}
 use Rattle.cycle.specs.declared.hall.Hall.{Hall}
 use Rattle.cycle.specs.declared.jet.JetState.{JetState}
 use Rattle.cycle.specs.declared.map.Masks.{Masks}
-use Rattle.cycle.proofs.Maps.{mapped-jet, mapped-found, in-word}
+use Rattle.cycle.proofs.Maps.{mapped-jet, mapped-found}
 use Rattle.feed.specs.Size.{stringsFrom, stringPart, oxidizerFrom, reportLength, outboxNeeded}
 use Rattle.feed.specs.Bytes.{four}
 use Rattle.feed.specs.Report.{headOf, reportedFail, reportOf}
@@ -44,7 +43,7 @@ use Rattle.feed.proofs.Calls.Calling.{call-called}
 use Rattle.feed.proofs.Calls.CallCases.{CallCase, none, some, call-case}
 use Rattle.feed.proofs.Answers.Fixed.{short-call}
 use Rattle.feed.proofs.Records.Carried.{history-carried, bank-carried}
-use Rattle.feed.proofs.Calls.CallRuns.{Kept, calls-kept, kept-number}
+use Rattle.feed.proofs.Calls.CallRuns.{Kept, calls-kept, kept-number, kept-jet}
 
 -- ---- words and bytes that fit
 
@@ -86,13 +85,6 @@ module _ (masks : List Masks) (h : Hall) (ts : List Heard) (kept : Kept masks h 
   bank-same : (m : ℕ) → m < moduleCount → getD (h .banks) m noBank ≡ bankHeard m ts
   bank-same m l = kept .run .told .banks m l ∙ bank-carried m l (kept .carry)
 
-  -- a mapped jet, by the records heard
-  jet-same : (s i j : ℕ) → s < stringCount → i < manifoldCount → inMask (masksOf masks s) i j
-      → jetOf i j (stringOf h s) ≡ run (jetHistory s i j ts)
-  jet-same s i j l below stands =
-      let word = in-word manifoldCount (masksOf (h .masks) s) (kept .run .proper .disjoint s l .fits) i j below (here s i j stands) in
-      kept .run .told .jets s i j l below stands ∙ ap run (history-carried s i j l word (kept .carry))
-
   pub asked-same : (s i : ℕ) → s < stringCount → i < manifoldCount
       → bit i ((stringOf h s) .close) ≡ any jetCount (λ j. bit j (getD (masksOf masks s) i 0) && askedSinceDrop (jetHistory s i j ts))
   asked-same s i l below =
@@ -113,7 +105,7 @@ module _ (masks : List Masks) (h : Hall) (ts : List Heard) (kept : Kept masks h 
         fail-bit s j l
         ∙ ap (λ (b : Bool). b && bit j ((stringOf h s) .standing .fail))
         (mapped-jet (masksOf (h .masks) s) j manifoldCount i below (here s i j stands))
-        ∙ ap (λ (x : JetState). x .standing .fail) (jet-same s i j l below stands);
+        ∙ ap (λ (x : JetState). x .standing .fail) (kept-jet kept s i j l below stands);
     noMask = λ s j l free.
         fail-bit s j l ∙ ap (λ (b : Bool). b && bit j ((stringOf h s) .standing .fail)) (mapped-no s j free (bit j (jets s)) refl);
     close = λ s i l below. ap (bit i) (close-at a h s l) ∙ bit-mod 8 i ((stringOf h s) .close) (omega arith) ∙ asked-same s i l below;

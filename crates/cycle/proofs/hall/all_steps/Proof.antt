@@ -15,8 +15,8 @@ use Rattle.cycle.specs.Inside.Halves.{firstSteps, fourthStep}
 use Rattle.cycle.specs.declared.map.Masks.{Masks}
 use Rattle.cycle.specs.declared.string.StringState.{StringState}
 use Rattle.cycle.specs.declared.values.Sample.{Sample}
-use Rattle.cycle.proofs.Each.{four-each, each-same}
-use Rattle.cycle.proofs.Halves.{both-halves, twice-each}
+use Rattle.cycle.proofs.Each.{four-each, twice-each, each-same}
+use Rattle.cycle.proofs.Halves.{both-halves}
 use Rattle.cycle.proofs.Loops.{next-within, next-nearer, next-fits, turned, as-asked, ended}
 use Rattle.cycle.proofs.hall.all_steps.Statement.{statement}
 use Rattle.cycle.proofs.hall.all_steps.Tie as tie
@@ -83,7 +83,7 @@ returns c =
     (as-asked (at-string 1) (second .first-steps2 .ensures) (second .before .before .has2 .ensures))
     (as-asked (at-string 2) (third .first-steps3 .ensures) (third .before .before .has3 .ensures))
     (as-asked (at-string 3) (last .first-steps4 .ensures) (last .before .before .has4 .ensures)))
-    ∙ twice-each by-bit step pastString (a .t1) (search (needs, start .good))
+    ∙ twice-each by-bit step pastString (a .t1) stringCount (search (needs, start .good))
     ∙ each-same (λ s x. step s (by-bit s x)) _ pastString (a .t1) stringCount (λ s x l.
     both-halves manifoldCount (masksOf masks s) (bit s (a .r .path)) (sampleOf (a .r) s) (a .gap) (a .missed) x)
 

@@ -12,7 +12,9 @@ returns c = rw (c .if1 .taken)
 returns-2 : tie.Need-returns-2
 unfolding majorCycle majorSteps
 returns-2 c =
-    let judged = c .before .before .before .before .before .before .before in
+    let heeded = c .before .before .before .before .before .before in
+    let closed = heeded .before .before in
+    let judged = closed .before in
     let leak = judged .before in
     let map = leak .before in
     let left = map .before in
@@ -24,6 +26,8 @@ returns-2 c =
       left .if1 .left,
       ← map .mapped .ensures,
       ← bad,
+      ← closed .behind-closed .ensures,
+      ← heeded .without .ensures,
       ← c .before .before .before .requested .ensures,
       ← c .before .before .rechecked .ensures,
       ← c .before .on-failure .ensures,
@@ -33,5 +37,5 @@ returns-2 c =
 pub major-cycle-spec : {M : Type 1} → statement M
 major-cycle-spec =
     tie.close
-    (tie.spec (λ c κs. search needs) (λ c κs. search needs) (λ c κs. search needs) (λ c. search needs) (λ c κs. search needs)
-    (λ c κs. search needs) (λ c κs. search needs) (λ c κs. search needs) returns returns-2)
+    (tie.spec (λ c κs. search needs) (λ c κs. search needs) (λ c κs. search needs) (λ c κs. search needs) (λ c κs. search needs)
+    (λ c. search needs) (λ c κs. search needs) (λ c κs. search needs) (λ c κs. search needs) (λ c κs. search needs) returns returns-2)

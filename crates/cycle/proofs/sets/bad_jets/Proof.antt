@@ -1,8 +1,8 @@
--- `cycle::string::bad_jets` meets its contract. Assumes nothing.
+-- `cycle::sets::bad_jets` meets its contract. Assumes nothing.
 use Rattle.cycle.specs.Words.{badJets}
 use borrow.Author.Needs.{needs}
-use Rattle.cycle.proofs.string.bad_jets.Statement.{statement}
-use Rattle.cycle.proofs.string.bad_jets.Tie as tie
+use Rattle.cycle.proofs.sets.bad_jets.Statement.{statement}
+use Rattle.cycle.proofs.sets.bad_jets.Tie as tie
 
 returns : tie.Need-returns
 unfolding badJets

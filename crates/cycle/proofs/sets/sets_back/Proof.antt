@@ -1,4 +1,4 @@
--- `cycle::string::sets_back` meets its contract. Assumes nothing.
+-- `cycle::sets::sets_back` meets its contract. Assumes nothing.
 use mathlib.Core.Path.{_≡_, ap, _∙_}
 use mathlib.Core.Bool.{Bool, cond}
 use mathlib.Core.List.{List}
@@ -10,8 +10,8 @@ use Rattle.cycle.specs.Size.{manifoldCount}
 use Rattle.cycle.specs.Each.{each}
 use Rattle.cycle.proofs.Loops.{turned, as-asked, ended}
 use Rattle.cycle.proofs.Halves.{sets-chosen}
-use Rattle.cycle.proofs.string.sets_back.Statement.{statement}
-use Rattle.cycle.proofs.string.sets_back.Tie as tie
+use Rattle.cycle.proofs.sets.sets_back.Statement.{statement}
+use Rattle.cycle.proofs.sets.sets_back.Tie as tie
 
 -- a set by its bit
 abbrev chosenBy : ℕ → List ℕ → ℕ → ℕ → ℕ

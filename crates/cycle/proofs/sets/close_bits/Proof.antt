@@ -1,4 +1,4 @@
--- `cycle::string::close_bits` meets its contract. Assumes nothing.
+-- `cycle::sets::close_bits` meets its contract. Assumes nothing.
 use lib.ListN.{getD}
 use Rattle.bits.proofs.Words.{pack-next}
 use borrow.Author.Needs.{needs}
@@ -9,8 +9,8 @@ use native.Mathlib.Numerals.{add-one}
 use Rattle.bits.specs.Bit.{pack}
 use Rattle.cycle.specs.Size.{manifoldCount}
 use Rattle.cycle.specs.Words.{asksClose, closeBits}
-use Rattle.cycle.proofs.string.close_bits.Statement.{statement}
-use Rattle.cycle.proofs.string.close_bits.Tie as tie
+use Rattle.cycle.proofs.sets.close_bits.Statement.{statement}
+use Rattle.cycle.proofs.sets.close_bits.Tie as tie
 
 abbrev Inv-loop : tie.InvT-loop
 Inv-loop recheck bad words w₀ i₀ w i = (i ≤ manifoldCount) × (w ≡ closeBits i words recheck bad)
