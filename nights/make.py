@@ -14,6 +14,8 @@ EACH = JETS // MANIFOLDS
 HALL = [[((1 << EACH) - 1) << EACH * i for i in range(MANIFOLDS)]] * STRINGS
 # Every string has jets 0 to 15 on manifold 7, 16 to 23 on 6, 24 to 27 on 5, 28 and 29 on 4, 30 on 3, 31 on 2, and none on 1 and 0.
 UNEVEN = [[0, 0, 0x80000000, 0x40000000, 0x30000000, 0x0F000000, 0x00FF0000, 0x0000FFFF]] * STRINGS
+# String 0 is let in halves: jets 0 to 15 are on manifold 0, 16 to 31 on manifold 1. The other strings have no jets.
+LET = [masks_of(0x0000FFFF, 0xFFFF0000)] + [masks_of()] * (STRINGS - 1)
 
 
 def only(place):
@@ -202,6 +204,44 @@ def reenable_too_early(without=()):
     return b"".join(feed)
 
 
+def tenant_alone():
+    """String 0, manifold 0: the driver of jet 3 stays on when its command ends, and the valve is closed by hand. On manifold 1 there is
+    nothing to see."""
+    return map_bytes(LET) + b"".join(tenants_record(cycle) for cycle in range(1, 151))
+
+
+def tenant_with_neighbour(sent_again=True):
+    """The same on manifold 0. On manifold 1 jet 20 leaks, the valve is closed and opened again, a script asks twice for an inhibit and a
+    re-enable of jet 25 and then for the inhibit alone, and the close bit is dropped. An old record comes back. Sent again: what the script
+    asks for at last comes in a record of the same cycle."""
+    feed = [map_bytes(LET)]
+    for cycle in range(1, 151):
+        if cycle == 100:
+            feed += 2 * [tenants_record(cycle, neighbour=True, requests={0: (only(25), only(25))})]
+        if cycle != 100 or sent_again:
+            feed.append(tenants_record(cycle, neighbour=True, requests={0: (only(25), 0)} if cycle == 100 else {}))
+        if cycle == 62:
+            feed.append(tenants_record(50, neighbour=True))
+    return b"".join(feed)
+
+
+def tenants_record(cycle, neighbour=False, requests={}):
+    """A record of either of these two nights."""
+    commanded = only(3) if 20 <= cycle < 40 else 0
+    driver = only(3) if 20 <= cycle else 0
+    pressure = driver if cycle < 110 else 0
+    valves = ALL_OPEN if cycle < 110 else ALL_OPEN - only(0)
+    if not neighbour:
+        return record(cycle, strings={0: (commanded, pressure, driver, valves)})
+    fires = only(30) if cycle < 80 else 0
+    closed = only(1) if 80 <= cycle < 140 else 0
+    strings = {0: (commanded | fires, pressure | fires, driver | fires, valves - closed)}
+    temps = {(0, 20): (word_of(-40), 300)} if 20 <= cycle < 80 else {}
+    blown_off = 12 * max(0, min(cycle, 80) - 20) // 25
+    drops = {0: only(1)} if cycle == 125 else {}
+    return record(cycle, 0, strings, temps, requests, {0: (500 - blown_off, 500)}, drops)
+
+
 def with_zero_masks(old):
     """The map of 128 bytes for a table of four manifolds: sixteen bytes of 00 behind each string's sixteen."""
     return map_bytes([masks_of(*string) for string in old])
@@ -223,6 +263,8 @@ NIGHTS = {
     "8-repair": repair,
     "9-old-map": old_map,
     "10-reenable-too-early": reenable_too_early,
+    "11-tenant-alone": tenant_alone,
+    "12-tenant-with-neighbour": tenant_with_neighbour,
 }
 
 

@@ -7,7 +7,7 @@ import pathlib
 import re
 
 root = pathlib.Path(__file__).resolve().parent.parent
-FRONT = tuple(f"crates/promises/proofs/{name}.antt" for name in ("Promises", "Writer", "Engines", "Keeper"))
+FRONT = tuple(f"crates/promises/proofs/{name}.antt" for name in ("Promises", "Writer", "Engines", "Tenants", "Keeper"))
 CRATES = ("plain", "writer", "feed", "cycle", "bits", "lines")
 
 

@@ -3,19 +3,17 @@
 use mathlib.Core.Path.{_≡_, refl, sym, ap, _∙_}
 use mathlib.Core.Bool.{Bool, true, false, not, cond}
 use mathlib.Core.List.{List}
-use mathlib.Core.Logic.{⊎-elim}
 use Prim.Native.Nat.{ℕ, zero, suc, _+_, _<_}
-use native.Mathlib.Nat.{not-suc-le-zero, le-of-suc-le-suc, eq-or-lt-of-le}
 use native.Mathlib.Numerals.{add-one}
-use native.Mathlib.Omega.{arith}
 use lib.Bits.{bitOr}
 use lib.ListN.{getD}
 use Rattle.bits.specs.Bit.{bit}
-use Rattle.bits.proofs.Yes.{not-both, not-yes, not-false, or-cases, or-left, or-right}
-use Rattle.bits.proofs.Bits.{bit-or, bit-none}
+use Rattle.bits.proofs.Yes.{not-both, not-yes, not-false}
+use Rattle.bits.proofs.Bits.{bit-none}
 use Rattle.cycle.specs.Map.{inMask}
 use Rattle.cycle.specs.Words.{behindClosed}
 use Rattle.cycle.specs.Proper.{Disjoint}
+use Rattle.cycle.proofs.Maps.{union, union-jet, union-found}
 
 module _ (masks : List ℕ) (valves j : ℕ) where
   -- the jets of manifold i, if its valve is closed
@@ -32,26 +30,19 @@ module _ (masks : List ℕ) (valves j : ℕ) where
       by true v e = not-both (bit j 0) e (bit-none j)
       by false v e = (e, v)
 
+  closed-union : (n : ℕ) → behindClosed n masks valves ≡ union shut n
+  unfolding behindClosed union
+  closed-union zero = refl
+  closed-union (suc n) = ap (λ (w : ℕ). bitOr w (shut n)) (closed-union n)
+
   closed-jet : (n i : ℕ) → i < n → inMask masks i j → bit i valves ≡ false → bit j (behindClosed n masks valves) ≡ true
-  unfolding behindClosed
-  closed-jet zero i l stands closed = absurd (not-suc-le-zero l)
-  closed-jet (suc n) i l stands closed =
-      let lower : Bool = bit j (behindClosed n masks valves) in
-      let this : Bool = bit j (shut n) in
-      bit-or j (behindClosed n masks valves) (shut n)
-      ∙ ⊎-elim (λ (e : i ≡ n). or-right lower this (ap (λ (k : ℕ). bit j (shut k)) (sym e) ∙ shut-jet i stands closed))
-      (λ (b : i < n). or-left lower this (closed-jet n i b stands closed)) (eq-or-lt-of-le (le-of-suc-le-suc l))
+  closed-jet n i l stands closed = ap (bit j) (closed-union n) ∙ union-jet shut j n i l (shut-jet i stands closed)
 
   closed-found : (n : ℕ) → bit j (behindClosed n masks valves) ≡ true
       → (i : ℕ) × (i < n) × inMask masks i j × (bit i valves ≡ false)
-  unfolding behindClosed
-  closed-found zero e = not-both (bit j 0) e (bit-none j)
-  closed-found (suc n) e =
-      ⊎-elim
-      (λ (h : bit j (behindClosed n masks valves) ≡ true).
-      let x = closed-found n h in (x .0, omega (arith, x .1), x .2, x .3))
-      (λ (h : bit j (shut n) ≡ true). let x = shut-found n h in (n, omega arith, x .0, x .1))
-      (or-cases (bit j (behindClosed n masks valves)) (bit j (shut n)) (sym (bit-or j (behindClosed n masks valves) (shut n)) ∙ e))
+  closed-found n e =
+      let x = union-found shut j n (ap (bit j) (sym (closed-union n)) ∙ e) in
+      let y = shut-found (x .0) (x .2) in (x .0, x .1, y .0, y .1)
 
 pub own-valve : (m i j : ℕ) (masks : List ℕ) (valves : ℕ) → Disjoint m masks → i < m → inMask masks i j
     → not (bit j (behindClosed m masks valves)) ≡ bit i valves

@@ -40,3 +40,4 @@ pub mod UnmappedWords
 pub mod UnmappedAlike
 pub mod ProperSteps
 pub mod TurnsTaken
+pub mod Tenants

@@ -7,6 +7,7 @@ use Prim.Native.Nat.{ℕ, zero, suc, _<_, _≤_, _^_}
 use native.Mathlib.Nat.{not-suc-le-zero, le-of-suc-le-suc, eq-or-lt-of-le}
 use native.Mathlib.Decide.{decLt}
 use native.Mathlib.Omega.{arith}
+use lib.Bits.{bitOr}
 use lib.ListN.{getD}
 use Rattle.bits.specs.Bit.{wordBits, bit, meets, any}
 use Rattle.bits.proofs.Yes.{not-both, and-left, and-right, and-both, or-cases, or-left, or-right}
@@ -17,27 +18,46 @@ use Rattle.cycle.specs.Map.{masksOf, inMask, FitMap, TwoMasks, mapped, o
 use Rattle.cycle.specs.Proper.{Disjoint}
 use Rattle.cycle.specs.declared.map.Masks.{Masks}
 
-module _ (masks : List ℕ) (j : ℕ) where
+-- ---- the jets of several words
+
+-- those of f 0, f 1, .., f (n - 1)
+unfoldable pub union : (ℕ → ℕ) → ℕ → ℕ
+union f zero = 0
+union f (suc n) = bitOr (union f n) (f n)
+
+module _ (f : ℕ → ℕ) (j : ℕ) where
+  pub union-jet : (n i : ℕ) → i < n → bit j (f i) ≡ true → bit j (union f n) ≡ true
+  unfolding union
+  union-jet zero i l h = absurd (not-suc-le-zero l)
+  union-jet (suc n) i l h =
+      bit-or j (union f n) (f n)
+      ∙ ⊎-elim (λ (e : i ≡ n). or-right (bit j (union f n)) (bit j (f n)) (ap (λ (k : ℕ). bit j (f k)) (sym e) ∙ h))
+      (λ (b : i < n). or-left (bit j (union f n)) (bit j (f n)) (union-jet n i b h)) (eq-or-lt-of-le (le-of-suc-le-suc l))
+
+  pub union-found : (n : ℕ) → bit j (union f n) ≡ true → (i : ℕ) × (i < n) × (bit j (f i) ≡ true)
+  unfolding union
+  union-found zero e = not-both (bit j 0) e (bit-none j)
+  union-found (suc n) e =
+      ⊎-elim
+      (λ (h : bit j (union f n) ≡ true). let x = union-found n h in (x .0, omega (arith, x .1), x .2))
+      (λ (h : bit j (f n) ≡ true). (n, omega arith, h))
+      (or-cases (bit j (union f n)) (bit j (f n)) (sym (bit-or j (union f n) (f n)) ∙ e))
+
+module _ (masks : List ℕ) where
+  mapped-union : (n : ℕ) → mapped n masks ≡ union (λ i. getD masks i 0) n
+  unfolding mapped union
+  mapped-union zero = refl
+  mapped-union (suc n) = ap (λ (w : ℕ). bitOr w (getD masks n 0)) (mapped-union n)
+
   -- a jet of one of the lowest n masks is mapped
-  pub mapped-jet : (n i : ℕ) → i < n → inMask masks i j → bit j (mapped n masks) ≡ true
-  unfolding mapped
-  mapped-jet zero i l h = absurd (not-suc-le-zero l)
-  mapped-jet (suc n) i l h =
-      let lower : Bool = bit j (mapped n masks) in
-      let this : Bool = bit j (getD masks n 0) in
-      bit-or j (mapped n masks) (getD masks n 0)
-      ∙ ⊎-elim (λ (e : i ≡ n). or-right lower this (ap (λ (k : ℕ). bit j (getD masks k 0)) (sym e) ∙ h))
-      (λ (b : i < n). or-left lower this (mapped-jet n i b h)) (eq-or-lt-of-le (le-of-suc-le-suc l))
+  pub mapped-jet : (j n i : ℕ) → i < n → inMask masks i j → bit j (mapped n masks) ≡ true
+  mapped-jet j n i l h = ap (bit j) (mapped-union n) ∙ union-jet (λ i. getD masks i 0) j n i l h
 
   -- and a mapped jet stands in one of them
-  pub mapped-found : (n : ℕ) → bit j (mapped n masks) ≡ true → (i : ℕ) × (i < n) × inMask masks i j
-  unfolding mapped
-  mapped-found zero e = not-both (bit j 0) e (bit-none j)
-  mapped-found (suc n) e =
-      ⊎-elim
-      (λ (h : bit j (mapped n masks) ≡ true). let x = mapped-found n h in (x .0, omega (arith, x .1), x .2))
-      (λ (h : inMask masks n j). (n, omega arith, h))
-      (or-cases (bit j (mapped n masks)) (bit j (getD masks n 0)) (sym (bit-or j (mapped n masks) (getD masks n 0)) ∙ e))
+  pub mapped-found : (j n : ℕ) → bit j (mapped n masks) ≡ true → (i : ℕ) × (i < n) × inMask masks i j
+  mapped-found j n e = union-found (λ i. getD masks i 0) j n (ap (bit j) (sym (mapped-union n)) ∙ e)
+
+-- ---- masks of one string
 
 -- some jet stands in two of one string's lowest n masks
 record Shared (n : ℕ) (masks : List ℕ) : Type 0 where

@@ -52,7 +52,8 @@ off-failure-shut-out commanded pressure s p =
     }
 
 -- "all its jets fail; their re-enables lapse"
-valve-shut-out : (was now : Bool) (s : JetState) → s .standing .valve ≡ was → ShutOutJet s → ShutOutJet (remembered now (valveMoved was now s))
+valve-shut-out : (was now : Bool) (s : JetState) → s .standing .valve ≡ was → ShutOutJet s
+    → ShutOutJet (remembered now (valveMoved was now s))
 unfolding valveMoved remembered
 valve-shut-out true true s v p =
     record { standing = record { failed = λ e. not-both true refl e; noReenable = λ e. not-both true refl e }; good = p .good }

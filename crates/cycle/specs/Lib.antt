@@ -16,4 +16,5 @@ pub mod Proper
 pub mod ShutOut
 pub mod Turns
 pub mod Unmapped
+pub mod Tenants
 pub mod Inside

@@ -18,3 +18,4 @@ pub mod OneWay
 pub mod ReliedOn
 pub mod ClosedFailed
 pub mod RequestsHeeded
+pub mod Tenants

@@ -17,6 +17,7 @@ pub mod Calls
 pub mod SettledAt
 pub mod Tells
 pub mod CloseShown
+pub mod Tenants
 pub mod Batch
 pub mod PutIn
 pub mod Masks

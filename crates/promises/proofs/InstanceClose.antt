@@ -5,15 +5,18 @@ use mathlib.Core.Path.{_≡_, refl, sym, ap, _∙_}
 use mathlib.Core.Bool.{Bool, true, false, _&&_}
 use mathlib.Core.List.{List, [], _∷_}
 use mathlib.Core.Logic.{inr}
-use Prim.Native.Nat.{ℕ, zero, suc, _+_, _*_, _<_, _^_}
-use native.Mathlib.Omega.{arith}
+use Prim.Native.Nat.{ℕ, _+_, _*_, _<_}
 use native.Mathlib.Bridge.{le-by-compare, IsLe}
-use lib.ListN.{getD, take, replicate}
-use Rattle.bits.specs.Bit.{bit, wordBits}
+use borrow.Author.Tests.{ltb-true}
+use lib.Dec.{ltb}
+use lib.ListN.{getD, take}
+use Rattle.bits.specs.Bit.{bit, every}
 use Rattle.bits.proofs.Yes.{not-both, and-both}
+use Rattle.bits.proofs.Every.{every-at}
 use Rattle.cycle.specs.Size.{stringCount, manifoldCount}
 use Rattle.cycle.specs.Answers.{writesReport}
-use Rattle.cycle.specs.Map.{FitMap}
+use Rattle.cycle.specs.Map.{masksOf, FitMap}
+use Rattle.cycle.specs.declared.map.Masks.{Masks}
 use Rattle.feed.specs.Size.{reportLength}
 use Rattle.feed.specs.Call.{Result}
 use Rattle.feed.specs.Calls.{answerOf, takenRecords}
@@ -27,21 +30,17 @@ use Rattle.promises.proofs.InstanceGiven.{feed-given, longer-given}
 
 -- ---- the map
 
--- manifolds without jets
-pub no-jets-fit : (n i : ℕ) → getD (replicate n 0) i 0 < 2 ^ wordBits
-unfolding IsLe
-no-jets-fit zero i = le-by-compare 1 0x100000000 tt
-no-jets-fit (suc n) zero = le-by-compare 1 0x100000000 tt
-no-jets-fit (suc n) (suc i) = no-jets-fit n i
+-- a map whose masks are words, tested one by one
+pub fits-by : (masks : List Masks) → every stringCount (λ s. every manifoldCount (λ i. ltb (getD (masksOf masks s) i 0) 0x100000000)) ≡ true
+    → FitMap masks
+fits-by masks e s i l b =
+    let word : ℕ → ℕ → Bool = λ s i. ltb (getD (masksOf masks s) i 0) 0x100000000 in
+    ltb-true (getD (masksOf masks s) i 0) 0x100000000
+    (every-at manifoldCount (word s) (every-at stringCount (λ s. every manifoldCount (word s)) e s l) i b)
 
 pub night-fits : FitMap nightMap
-unfolding IsLe
-night-fits zero zero l m = le-by-compare 0x10 0x100000000 tt
-night-fits zero (suc i) l m = no-jets-fit 7 i
-night-fits (suc zero) i l m = no-jets-fit manifoldCount i
-night-fits (suc (suc zero)) i l m = no-jets-fit manifoldCount i
-night-fits (suc (suc (suc zero))) i l m = no-jets-fit manifoldCount i
-night-fits (suc (suc (suc (suc s)))) i l m = absurd (omega arith)
+unfolding every
+night-fits = fits-by nightMap refl
 
 -- ---- the reports
 

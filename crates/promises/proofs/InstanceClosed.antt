@@ -4,11 +4,10 @@
 use mathlib.Core.Path.{_≡_, refl}
 use mathlib.Core.Bool.{true, false}
 use mathlib.Core.List.{[], _∷_}
-use Prim.Native.Nat.{zero, suc, _<_}
+use Prim.Native.Nat.{_<_}
 use native.Mathlib.Bridge.{le-by-compare, IsLe}
-use native.Mathlib.Omega.{arith}
 use Rattle.bits.specs.Bit.{bit}
-use Rattle.cycle.specs.Size.{stringCount, manifoldCount}
+use Rattle.cycle.specs.Size.{stringCount}
 use Rattle.cycle.specs.Map.{FitMap, refused}
 use Rattle.cycle.specs.Answers.{writesReport}
 use Rattle.feed.specs.Bytes.{four}
@@ -20,26 +19,19 @@ use Rattle.feed.proofs.Reports.RequestsHeeded.{inhibit-heeded, reenable-heeded}
 use Rattle.promises.specs.InstanceCalls.{handing}
 use Rattle.promises.specs.NightBytes.{threeManifoldMap, quiet, requestingAt, recordBytes}
 use Rattle.promises.proofs.Nights.{computed}
-use Rattle.promises.proofs.InstanceClose.{no-jets-fit, first-string, first-manifold}
+use Rattle.promises.proofs.InstanceClose.{fits-by, first-string, first-manifold}
 
 -- ---- the map
 
 three-fit : FitMap threeManifoldMap
-unfolding IsLe
-three-fit zero zero l m = le-by-compare 0x10 0x100000000 tt
-three-fit zero (suc zero) l m = le-by-compare 0xF1 0x100000000 tt
-three-fit zero (suc (suc zero)) l m = le-by-compare 0xF01 0x100000000 tt
-three-fit zero (suc (suc (suc i))) l m = no-jets-fit 5 i
-three-fit (suc zero) i l m = no-jets-fit manifoldCount i
-three-fit (suc (suc zero)) i l m = no-jets-fit manifoldCount i
-three-fit (suc (suc (suc zero))) i l m = no-jets-fit manifoldCount i
-three-fit (suc (suc (suc (suc s)))) i l m = absurd (omega arith)
+unfolding computed
+three-fit = fits-by threeManifoldMap refl
 
 three-accepted : refused stringCount threeManifoldMap ≡ false
 unfolding computed
 three-accepted = refl
 
-second-manifold : 1 < 8
+pub second-manifold : 1 < 8
 unfolding IsLe
 second-manifold = le-by-compare 2 8 tt
 

@@ -25,3 +25,5 @@ pub mod Keeper
 pub mod Promises
 pub mod Writer
 pub mod Engines
+pub mod Tenants
+pub mod InstanceTenants

@@ -29,6 +29,7 @@ use Rattle.promises.specs.NightsOfDrops.{repairNights, dropNights}
 use Rattle.promises.specs.NightsOfManifolds.{manifoldNights}
 use Rattle.promises.specs.NightsOfEight.{eightManifoldNights}
 use Rattle.promises.specs.NightsOfClosedValves.{closedValveNights}
+use Rattle.promises.specs.NightsOfTenants.{tenantNights}
 use Rattle.promises.specs.NightsOfPaths.{pathNights}
 use Rattle.promises.specs.NightsOfLostValves.{lostValveNights}
 use Rattle.promises.specs.Nights.{wires, starredNights, nights}
@@ -90,6 +91,10 @@ nights-hold-of-closed-valves : EachHolds closedValveNights
 unfolding computed closedValveNights
 nights-hold-of-closed-valves = (refl, (refl, (refl, (refl, (refl, (refl, (refl, (refl, (refl, tt)))))))))
 
+nights-hold-of-tenants : EachHolds tenantNights
+unfolding computed tenantNights
+nights-hold-of-tenants = (refl, (refl, tt))
+
 nights-hold-of-paths : EachHolds pathNights
 unfolding computed pathNights
 nights-hold-of-paths = (refl, (refl, (refl, (refl, (refl, (refl, (refl, tt)))))))
@@ -116,4 +121,5 @@ nights-hold =
     (both-hold bothWaysNights _ nights-hold-of-both-ways
     (both-hold repairNights _ nights-hold-of-repairs
     (both-hold dropNights _ nights-hold-of-drops
-    (both-hold eightManifoldNights closedValveNights nights-hold-of-eight nights-hold-of-closed-valves)))))))))))
+    (both-hold eightManifoldNights _ nights-hold-of-eight
+    (both-hold closedValveNights tenantNights nights-hold-of-closed-valves nights-hold-of-tenants))))))))))))

@@ -10,6 +10,7 @@ pub mod NightsOfDrops
 pub mod NightsOfManifolds
 pub mod NightsOfEight
 pub mod NightsOfClosedValves
+pub mod NightsOfTenants
 pub mod NightsOfPaths
 pub mod NightsOfLostValves
 pub mod Nights

@@ -96,11 +96,11 @@ requestBytes x = inFour (x .requests .inhibit) ++ inFour (x .requests .reenable)
 abbrev pub dropBytes : Said → Said → List ℕ
 dropBytes first second = first .requests .drop ∷ second .requests .drop ∷ 0x00 ∷ 0x00 ∷ []
 
--- "512 bytes of injector temperatures", as given; the requests, the drops, "for each module fuel then oxidizer, 2 bytes each": all
--- quantities 0
-abbrev pub majorPart : List ℕ → Said → Said → List ℕ
-majorPart temperatures first second =
-    temperatures ++ requestBytes first ++ requestBytes second ++ replicate 16 0x00 ++ dropBytes first second ++ replicate 12 0x00
+-- "512 bytes of injector temperatures"; the requests, the drops; "for each module fuel then oxidizer, 2 bytes each": temperatures and
+-- quantities as given
+abbrev pub majorPart : List ℕ → List ℕ → Said → Said → List ℕ
+majorPart temperatures quantities first second =
+    temperatures ++ requestBytes first ++ requestBytes second ++ replicate 16 0x00 ++ dropBytes first second ++ quantities
 
 -- "sum, 2 bytes: all earlier bytes of the record, mark included"
 abbrev pub withSum : List ℕ → List ℕ
@@ -110,9 +110,13 @@ withSum l = l ++ inTwo (sumOf l)
 abbrev pub minorAt : ℕ → ℕ → Said → Said → List ℕ
 minorAt n path first second = withSum (0x52 ∷ 0x4D ∷ commonPart n path first second)
 
+abbrev pub majorWithAt : List ℕ → List ℕ → ℕ → ℕ → Said → Said → List ℕ
+majorWithAt temperatures quantities n path first second =
+    withSum (0x52 ∷ 0x4A ∷ commonPart n path first second ++ majorPart temperatures quantities first second)
+
+-- all quantities 0
 abbrev pub majorAt : List ℕ → ℕ → ℕ → Said → Said → List ℕ
-majorAt temperatures n path first second =
-    withSum (0x52 ∷ 0x4A ∷ commonPart n path first second ++ majorPart temperatures first second)
+majorAt temperatures n path first second = majorWithAt temperatures (replicate 12 0x00) n path first second
 
 -- of the right kind; with these temperatures, where it is major
 abbrev pub recordBytesAt : List ℕ → ℕ → ℕ → Said → Said → List ℕ

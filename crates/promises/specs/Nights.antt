@@ -19,6 +19,7 @@ use Rattle.promises.specs.NightsOfDrops.{repairNights, dropNights}
 use Rattle.promises.specs.NightsOfManifolds.{manifoldNights}
 use Rattle.promises.specs.NightsOfEight.{eightManifoldNights}
 use Rattle.promises.specs.NightsOfClosedValves.{closedValveNights}
+use Rattle.promises.specs.NightsOfTenants.{tenantNights}
 use Rattle.promises.specs.NightsOfPaths.{pathNights}
 use Rattle.promises.specs.NightsOfLostValves.{lostValveNights}
 
@@ -128,7 +129,7 @@ unfoldable pub starredNights : List Night
 starredNights = firstRecord ∷ failsOff ∷ failsOffAfterGap ∷ failsOn ∷ failsOnAfterGap ∷ valveCloses ∷ wireWraps ∷ quantitiesBalance ∷ []
 
 -- the single list: those that 01 marks, as 02 amends them; those that pin each step where no law does; and those of 02, order 3, from
--- bytes to the close bit, and orders 4, 6, 7 and 8
+-- bytes to the close bit, and orders 4, 6, 7, 8 and 9
 unfoldable pub nights : List Night
 nights =
     starredNights
@@ -138,4 +139,5 @@ nights =
     ++ (manifoldNights
     ++ (pathNights
     ++ (lostValveNights
-    ++ (frozenNights ++ (bothWaysNights ++ (repairNights ++ (dropNights ++ (eightManifoldNights ++ closedValveNights)))))))))))
+    ++ (frozenNights
+    ++ (bothWaysNights ++ (repairNights ++ (dropNights ++ (eightManifoldNights ++ (closedValveNights ++ tenantNights))))))))))))

@@ -40,8 +40,14 @@ pub mod request_cases;
 pub mod request_input;
 pub mod score;
 pub mod script;
+pub mod strangers;
 pub mod tally;
 pub mod temperature_cases;
+pub mod tenant;
+pub mod tenant_cases;
+pub mod tenant_line;
+pub mod tenant_night;
+pub mod tenants;
 pub mod world;
 
 pub use monitor::Monitor;

@@ -50,6 +50,24 @@ impl Chances {
             odd: random.pick(&[0, 5, 30, 200]),
         }
     }
+
+    /// For a string that is let: much happens in a short night. What the line does is not drawn here.
+    pub fn of_tenants(random: &mut Random) -> Chances {
+        Chances {
+            jets: random.pick(&[3, 6]),
+            valves: random.pick(&[60, 200]),
+            paths: random.pick(&[0, 50, 200]),
+            requests: random.pick(&[0, 3, 6]),
+            drops: random.pick(&[2, 4]),
+            noise: random.pick(&[0, 0, 20]),
+            gaps: random.pick(&[0, 15, 60]),
+            both_ways: 0,
+            sent_again: 0,
+            jumps: 0,
+            damage: 0,
+            odd: 0,
+        }
+    }
 }
 
 #[derive(Clone, Debug, Default)]

@@ -1,15 +1,17 @@
 -- What any calls keep, from fresh over an accepted map: the hall's run over the records answered 0, and numbers that fit their bytes in a
 -- report. Assumes nothing.
 use mathlib.Core.Path.{_≡_, refl, ap, subst, _∙_}
-use mathlib.Core.Bool.{Bool, true, false, cond}
+use mathlib.Core.Bool.{Bool, true, false, cond, _&&_}
 use mathlib.Core.List.{List, [], _∷_, _++_}
 use mathlib.Core.Logic.{_⊎_, inl, inr}
 use Prim.Native.Nat.{ℕ, _+_, _*_, _<_, _≤_}
 use native.Mathlib.Omega.{arith}
 use lib.ListN.{length, getD, getD-replicate}
-use Rattle.cycle.specs.Size.{stringCount, manifoldCount, moduleCount, lastCount}
+use Rattle.bits.specs.Bit.{bit, any}
+use Rattle.bits.proofs.Words.{any-same}
+use Rattle.cycle.specs.Size.{stringCount, jetCount, manifoldCount, moduleCount, lastCount}
 use Rattle.cycle.specs.Answers.{isTaken}
-use Rattle.cycle.specs.Jets.{run}
+use Rattle.cycle.specs.Jets.{JetRecord, run, askedSinceDrop}
 use Rattle.cycle.specs.Map.{masksOf, inMask, FitMap, refused}
 use Rattle.cycle.specs.Banks.{noBank, noQuantities}
 use Rattle.cycle.specs.Records.{Record, minor, major}
@@ -17,6 +19,7 @@ use Rattle.cycle.specs.Hall.{stringOf, freshHall, started, verdictOn, steppedBy
 use Rattle.cycle.specs.Views.{jetOf}
 use Rattle.cycle.specs.Proper.{ProperHall}
 use Rattle.cycle.specs.Inside.Runs.{TakenRecord, bankBy}
+use Rattle.cycle.specs.Inside.Runs as runs
 use Rattle.cycle.specs.declared.banks.Bank.{Bank}
 use Rattle.cycle.specs.declared.hall.Hall.{Hall}
 use Rattle.cycle.specs.declared.hall.Stepped.{Stepped}
@@ -110,6 +113,15 @@ kept-jet {masks} {h} {ts} kept s i j l below stands =
     let here : inMask (masksOf (h .masks) s) i j = rw (kept .run .told .map) stands in
     let word = in-word manifoldCount (masksOf (h .masks) s) (kept .run .proper .disjoint s l .fits) i j below here in
     kept .run .told .jets s i j l below stands ∙ ap run (heard.history-carried s i j l word (kept .carry))
+
+-- a manifold's close bit
+pub kept-close : {masks : List Masks} {h : Hall} {ts : List Heard} → Kept masks h ts → (s i : ℕ) → s < stringCount → i < manifoldCount
+    → bit i ((stringOf h s) .close) ≡ any jetCount (λ j. bit j (getD (masksOf masks s) i 0) && askedSinceDrop (jetHistory s i j ts))
+kept-close {masks} {h} {ts} kept s i l below =
+    let asked : List JetRecord → ℕ → Bool = λ x j. bit j (getD (masksOf masks s) i 0) && askedSinceDrop x in
+    kept .run .told .closes s i l below
+    ∙ any-same jetCount (λ j. asked (runs.jetHistory s i j (kept .values)) j) (λ j. asked (jetHistory s i j ts) j)
+    (λ j b. ap (λ (x : List JetRecord). asked x j) (heard.history-carried s i j l b (kept .carry)))
 
 -- the records heard, with the one that a call settled
 abbrev grown : Bool → List ℕ → List Heard → List Heard

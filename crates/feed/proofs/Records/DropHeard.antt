@@ -24,16 +24,16 @@ pub marked-by : (n : ℕ) (r : List ℕ) → Matched n r → KindMarked (record 
 marked-by n r (inl x) = (λ z. x .1, λ e. x .0)
 marked-by n r (inr x) = (λ z. absurd (x .0 z), λ e. let z : _≡_ {A = ℕ} 0x4A 0x4D = sym e ∙ x .1 in omega (arith, z))
 
+-- a number of a major record stands as it is
+pub as-it-is : (j : ℕ) (r : List ℕ) (w : ℕ) → getD r 1 0 ≡ 0x4A → bit j (inMajor r w) ≡ bit j w
+as-it-is j r w e = ap (λ (b : Bool). bit j (cond b w 0)) (eq-eqb (getD r 1 0) 0x4A e)
+
 module _ (s i j : ℕ) (t : Heard) (kind : KindMarked t) where
   abbrev clear : Bool
   clear = not (bit s (getD (t .bytes) 4 0))
 
   abbrev byte : ℕ
   byte = getD (t .bytes) (601 + s) 0
-
-  -- in a major record the drop byte stands as it is
-  as-it-is : getD (t .bytes) 1 0 ≡ 0x4A → bit i (inMajor (t .bytes) byte) ≡ bit i byte
-  as-it-is e = ap (λ (b : Bool). bit i (cond b byte 0)) (eq-eqb (getD (t .bytes) 1 0) 0x4A e)
 
   pub drop-heard : (dropsAt (jetHeard s i j t) ≡ true) ↔ DropCarriedOut s i (t .bytes)
   unfolding isMajor
@@ -49,14 +49,14 @@ module _ (s i j : ℕ) (t : Heard) (kind : KindMarked t) where
           record {
             mark = mark;
             path = not-true (bit s (getD (t .bytes) 4 0)) (and-left clear (isMajor (t .n)) front);
-            asked = sym (as-it-is mark) ∙ and-right (clear && isMajor (t .n)) asks e;
+            asked = sym (as-it-is i (t .bytes) byte mark) ∙ and-right (clear && isMajor (t .n)) asks e;
           }
 
       back : DropCarriedOut s i (t .bytes) → dropsAt (jetHeard s i j t) ≡ true
       back d =
           and-both (clear && isMajor (t .n)) asks
           (and-both clear (isMajor (t .n)) (not-false (bit s (getD (t .bytes) 4 0)) (d .path)) (eq-eqb (t .n % 25) 0 (kind .1 (d .mark))))
-          (as-it-is (d .mark) ∙ d .asked)
+          (as-it-is i (t .bytes) byte (d .mark) ∙ d .asked)
 
   -- and it is decided
   pub decided : {P : Type 0} → (DropCarriedOut s i (t .bytes) → P) → ((DropCarriedOut s i (t .bytes) → ⊥) → P) → P

@@ -25,10 +25,10 @@ use Rattle.feed.specs.Call.{holds}
 use Rattle.feed.specs.Calls.{Made, monitorAfter, answerOf, takenRecords}
 use Rattle.feed.specs.CloseShown.{ThirdNow, ThirdSince, Earliest, Shows, TakesDrop, NoneTakesDrop, NotShownSince}
 use Rattle.feed.proofs.Records.Lengths.{by-test}
-use Rattle.feed.proofs.Calls.CallRuns.{Kept, calls-kept}
+use Rattle.feed.proofs.Calls.CallRuns.{Kept, calls-kept, kept-close}
 use Rattle.feed.proofs.Records.Carried.{history-carried}
 use Rattle.feed.proofs.Records.DropHeard.{KindMarked, decided}
-use Rattle.feed.proofs.Reports.ReportsTell.{asked-same, reports-tell}
+use Rattle.feed.proofs.Reports.ReportsTell.{reports-tell}
 use Rattle.feed.proofs.Reports.KindsTaken.{kinds-marked}
 use Rattle.feed.proofs.Reports.CloseSince.{jet-since, since-jet}
 
@@ -67,7 +67,7 @@ module _ (masks : List Masks) (fit : FitMap masks) (accepted : refused stringCou
       let ts : List Heard = takenRecords masks (c ∷ cs) in
       let marked = kinds-marked masks fit accepted (c ∷ cs) in
       let same = reports-tell masks fit accepted c cs w .close s i l below
-      ∙ sym (asked-same masks h ts kept (answerOf masks c cs) s i l below) in
+      ∙ sym (kept-close kept s i l below) in
       let exactly = close-exactly masks h (kept .values) (kept .run) s i l below in (
         λ e. jet-since mask s i ts marked (heard-third kept (exactly .0 (sym same ∙ e))),
         λ x. same ∙ exactly .1 (third-heard kept (since-jet mask s i ts marked x)),

@@ -9,17 +9,14 @@ use native.Mathlib.Omega.{arith}
 use lib.Bits.{and-le-l, or-lt}
 use lib.ListN.{length, getD, take, drop}
 use lib.Seq.{take-at}
-use Rattle.bits.specs.Bit.{bit, wordBits, any}
+use Rattle.bits.specs.Bit.{bit, wordBits}
 use Rattle.bits.proofs.Bits.{bit-and, bit-mod}
 use Rattle.bits.proofs.Yes.{not-both}
-use Rattle.bits.proofs.Words.{any-same}
-use Rattle.cycle.specs.Size.{stringCount, jetCount, manifoldCount, moduleCount}
+use Rattle.cycle.specs.Size.{stringCount, manifoldCount, moduleCount}
 use Rattle.cycle.specs.Answers.{writesReport}
-use Rattle.cycle.specs.Jets.{JetRecord, askedSinceDrop}
 use Rattle.cycle.specs.Map.{masksOf, inMask, FitMap, mapped, refused}
 use Rattle.cycle.specs.Banks.{noBank}
 use Rattle.cycle.specs.Hall.{stringOf}
-use Rattle.cycle.specs.Inside.Runs as runs
 use Rattle.cycle.specs.declared.answer.Answer.{Answer}
 use Rattle.cycle.specs.declared.banks.Bank.{Bank}
 use Rattle.cycle.specs.declared.hall.Hall.{Hall}
@@ -31,7 +28,7 @@ use Rattle.feed.specs.Bytes.{four}
 use Rattle.feed.specs.Report.{headOf, reportedFail, reportOf}
 use Rattle.feed.specs.Call.{Result, called, call}
 use Rattle.feed.specs.Calls.{Made, monitorAfter, answerOf, reportIn, takenRecords}
-use Rattle.feed.specs.Heard.{Heard, jetHistory, bankHeard}
+use Rattle.feed.specs.Heard.{Heard, bankHeard}
 use Rattle.feed.specs.Tells.{Tells}
 use Rattle.feed.specs.declared.call.Monitor.{Monitor}
 use Rattle.feed.proofs.Reports.ReportLengths.{report-length}
@@ -42,8 +39,8 @@ use Rattle.feed.proofs.Records.Lengths.{below-or}
 use Rattle.feed.proofs.Calls.Calling.{call-called}
 use Rattle.feed.proofs.Calls.CallCases.{CallCase, none, some, call-case}
 use Rattle.feed.proofs.Answers.Fixed.{short-call}
-use Rattle.feed.proofs.Records.Carried.{history-carried, bank-carried}
-use Rattle.feed.proofs.Calls.CallRuns.{Kept, calls-kept, kept-number, kept-jet}
+use Rattle.feed.proofs.Records.Carried.{bank-carried}
+use Rattle.feed.proofs.Calls.CallRuns.{Kept, calls-kept, kept-number, kept-jet, kept-close}
 
 -- ---- words and bytes that fit
 
@@ -85,14 +82,6 @@ module _ (masks : List Masks) (h : Hall) (ts : List Heard) (kept : Kept masks h 
   bank-same : (m : ℕ) → m < moduleCount → getD (h .banks) m noBank ≡ bankHeard m ts
   bank-same m l = kept .run .told .banks m l ∙ bank-carried m l (kept .carry)
 
-  pub asked-same : (s i : ℕ) → s < stringCount → i < manifoldCount
-      → bit i ((stringOf h s) .close) ≡ any jetCount (λ j. bit j (getD (masksOf masks s) i 0) && askedSinceDrop (jetHistory s i j ts))
-  asked-same s i l below =
-      kept .run .told .closes s i l below
-      ∙ any-same jetCount (λ j. bit j (getD (masksOf masks s) i 0) && askedSinceDrop (runs.jetHistory s i j (kept .values)))
-      (λ j. bit j (getD (masksOf masks s) i 0) && askedSinceDrop (jetHistory s i j ts))
-      (λ j b. ap (λ (t : List JetRecord). bit j (getD (masksOf masks s) i 0) && askedSinceDrop t) (history-carried s i j l b (kept .carry)))
-
   pub hall-tells : Tells masks a ts report
   unfolding reportOf headOf
   hall-tells = record {
@@ -108,7 +97,7 @@ module _ (masks : List Masks) (h : Hall) (ts : List Heard) (kept : Kept masks h 
         ∙ ap (λ (x : JetState). x .standing .fail) (kept-jet kept s i j l below stands);
     noMask = λ s j l free.
         fail-bit s j l ∙ ap (λ (b : Bool). b && bit j ((stringOf h s) .standing .fail)) (mapped-no s j free (bit j (jets s)) refl);
-    close = λ s i l below. ap (bit i) (close-at a h s l) ∙ bit-mod 8 i ((stringOf h s) .close) (omega arith) ∙ asked-same s i l below;
+    close = λ s i l below. ap (bit i) (close-at a h s l) ∙ bit-mod 8 i ((stringOf h s) .close) (omega arith) ∙ kept-close kept s i l below;
     unbalanced = λ m l.
         ap (bit m) (balance-at a h ∙ balance-byte (h .banks))
         ∙ unbalanced-bit (h .banks) m l

@@ -1,6 +1,6 @@
 -- What the requests of the newest record taken do, by its bytes, in the bytes of every report until the next is taken. Assumes nothing.
-use mathlib.Core.Path.{_≡_, ap, _∙_}
-use mathlib.Core.Bool.{Bool, true, false, cond, _&&_}
+use mathlib.Core.Path.{_≡_, _∙_}
+use mathlib.Core.Bool.{true, false, _&&_}
 use mathlib.Core.List.{List, [], _∷_}
 use Prim.Native.Nat.{ℕ, _+_, _*_, _%_, _<_}
 use borrow.Author.Tests.{eq-eqb}
@@ -16,17 +16,13 @@ use Rattle.cycle.specs.declared.map.Masks.{Masks}
 use Rattle.cycle.proofs.Heeded.{inhibit-done, reenable-done}
 use Rattle.feed.specs.Size.{stringsFrom, stringPart}
 use Rattle.feed.specs.Bytes.{four}
-use Rattle.feed.specs.Heard.{Heard, Each, inMajor, jetHeard, jetHistory, InhibitCarriedOut, ReenableCarriedOut}
+use Rattle.feed.specs.Heard.{Heard, Each, jetHeard, jetHistory, InhibitCarriedOut, ReenableCarriedOut}
 use Rattle.feed.specs.SaidClosed.{Newest}
 use Rattle.feed.specs.Calls.{Made, answerOf, reportIn, takenRecords}
-use Rattle.feed.proofs.Records.DropHeard.{KindMarked}
+use Rattle.feed.proofs.Records.DropHeard.{KindMarked, as-it-is}
 use Rattle.feed.proofs.Reports.KindsTaken.{kinds-marked}
 use Rattle.feed.proofs.Reports.OneWay.{jet-one-way}
 use Rattle.feed.proofs.Reports.ReportsTell.{reports-tell}
-
--- a word of a major record stands as it is
-as-it-is : (j : ℕ) (r : List ℕ) (w : ℕ) → getD r 1 0 ≡ 0x4A → bit j (inMajor r w) ≡ bit j w
-as-it-is j r w e = ap (λ (b : Bool). bit j (cond b w 0)) (eq-eqb (getD r 1 0) 0x4A e)
 
 -- its cycle number is that of a major cycle
 major-heard : (t : Heard) → KindMarked t → getD (t .bytes) 1 0 ≡ 0x4A → isMajor (t .n) ≡ true
