@@ -1,16 +1,16 @@
--- The premises of 02, order 9, can be met by runs that differ in the neighbours, another string, the quantities and the records refused:
--- the two nights of NightsOfTenants, handed in by calls. In both the report of record 75 has jet 5 failed and the close bit of manifold 1
--- set, computed, and as the theorem says. Assumes nothing.
+-- The premises of 02, order 9, can be met by runs that differ in the neighbours, another string, the quantities, the records refused, the
+-- bytes lost and the cuts: the two nights of NightsOfTenants, handed in by calls. In both the report of record 75 has jet 5 failed and the
+-- close bit of manifold 1 set, computed, and as the theorem says. Assumes nothing.
 use mathlib.Core.Path.{_≡_, refl, sym, ap, _∙_}
 use mathlib.Core.Bool.{Bool, true, false, not, _&&_, _||_}
-use mathlib.Core.List.{List, [], _∷_}
+use mathlib.Core.List.{List, [], _∷_, _++_}
 use Prim.Native.Nat.{ℕ, zero, suc, _+_, _*_, _^_, _<_}
 use native.Mathlib.Bridge.{le-by-compare, IsLe}
 use native.Mathlib.Omega.{arith}
 use borrow.Author.Tests.{eqb-true}
 use lib.Bits.{bitAnd}
 use lib.Dec.{eqb}
-use lib.ListN.{length, getD, take}
+use lib.ListN.{length, getD, take, drop}
 use Rattle.bits.specs.Bit.{bit, wordBits, every}
 use Rattle.bits.proofs.Bits.{bit-and}
 use Rattle.bits.proofs.Every.{every-at}
@@ -64,8 +64,12 @@ besideToStale = handing ((staleAt 10 25) .bytes) ∷ handing beside25 ∷ []
 abbrev bothWays : Made
 bothWays = handing ((bothWaysAt 50 25) .bytes)
 
+-- record 50 comes again behind a byte that is lost, and in two pieces
+abbrev inPieces50 : List Made
+inPieces50 = handing (drop 85 beside50) ∷ handing (0x00 ∷ take 85 beside50) ∷ []
+
 abbrev besideTo50 : List Made
-besideTo50 = handing beside50 ∷ bothWays ∷ besideToStale
+besideTo50 = inPieces50 ++ (bothWays ∷ besideToStale)
 
 alone-taken : takenRecords tenantMap (handing (alone 75) ∷ aloneTo50)
     ≡ record { n = 75; bytes = alone 75 } ∷ record { n = 50; bytes = alone 50 } ∷ record { n = 25; bytes = alone 25 } ∷ []
@@ -200,5 +204,5 @@ last-same =
 pub refused-same : SameShown 0x000000F0 0 1 (reportIn tenantMap (handing (alone 25)) []) (reportIn tenantMap bothWays besideToStale)
 refused-same =
     tenants-agree tenantMap tenant-fit tenant-accepted 0 1 first-string second-manifold (handing (alone 25)) bothWays [] besideToStale
-    (handing (alone 75) ∷ handing (alone 50) ∷ []) (handing beside75 ∷ handing beside50 ∷ []) runs-agree as-many
+    (handing (alone 75) ∷ handing (alone 50) ∷ []) (handing beside75 ∷ inPieces50) runs-agree as-many
     (ap writtenIn alone-first) (ap writtenIn beside-refused)
