@@ -1,6 +1,5 @@
 -- 02, order 9: "Two tenants on one string", by bytes: what the records taken in two runs, and two reports, have in common for manifold i of
--- string s, whose jets are `mask`. The numbers are written as the documents write or add them up. Lists are the newest first. Assumes
--- nothing.
+-- string s, whose jets are `mask`. Numbers are written as the documents write or add them up, lists are the newest first. Assumes nothing.
 use mathlib.Core.Path.{_≡_}
 use mathlib.Core.Bool.{true}
 use mathlib.Core.List.{List, [], _∷_}

@@ -1,7 +1,7 @@
 -- 02, order 9: two nights of one tenant over the same map, from bytes, the neighbours asleep in the one and at work in the other. The
 -- tenant has manifold 1 of string 0, jets 4 to 7; manifolds 0 and 2, jets 0 to 3 and 8 to 11, and string 1 are let to others. In both
--- nights the driver of jet 5 is on at 25, 50 and 75 without command: the jet is failed at 50 and the close bit comes at 75. Assumes
--- nothing.
+-- nights the driver of jet 5 is on at 25, 50 and 75 without command: the jet is failed at 50, and the close bit comes at 75.
+-- Assumes nothing.
 use mathlib.Core.List.{List, [], _∷_, _++_}
 use Prim.Native.Nat.{ℕ}
 use lib.ListN.{replicate}
