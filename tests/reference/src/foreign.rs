@@ -12,6 +12,7 @@ use crate::monitor::{Monitor, MOST_HELD, STORE_LENGTH};
 use crate::random::Random;
 use crate::reader::look_and_tell;
 use crate::record::{Record, StringMajor, StringWords, ALL_OPEN};
+use crate::report::REPORT_LENGTH;
 use crate::script::{call, state, WHOLE_HALL};
 use crate::state::{hall_from, masks_of, HALL_LENGTH, STRING_WORDS};
 use crate::world::{
@@ -35,8 +36,7 @@ pub fn script(seed: u64, cases: &mut ForeignCases, counted: &mut Counted) -> Vec
     let mut script = state(WHOLE_HALL, &hall, held, &store);
     script.extend(calls.to_be_bytes());
     for number in 0..calls {
-        let length = random.pick(&[34, 34, 34, 34, 34, 34, 34, 40, 33, 0]);
-        let mut outbox = random.bytes(length);
+        let mut outbox = outbox(&mut random);
         script.extend(call(&piece, &outbox));
         let mut lost = Vec::new();
         let mut bytes = [monitor.take_held(), piece.clone()].concat();
@@ -113,8 +113,9 @@ fn hall(random: &mut Random) -> [u8; HALL_LENGTH] {
     for _ in 0..3 {
         bytes.extend([flag(random), flag(random)]);
         bytes.extend((random.word() as u16).to_be_bytes());
+        bytes.extend((random.word() as i16).to_be_bytes());
     }
-    bytes.try_into().expect("a hall has 612 bytes")
+    bytes.try_into().expect("a hall's bytes")
 }
 
 /// The masks of a string, two times in three such as no map has.
@@ -155,6 +156,16 @@ fn next_piece(hall: &Hall, random: &mut Random) -> Vec<u8> {
         piece.truncate(random.index(piece.len()));
     }
     piece
+}
+
+/// Mostly one that just takes a report; now and then longer, a byte short, or shorter.
+fn outbox(random: &mut Random) -> Vec<u8> {
+    const FIT: usize = REPORT_LENGTH;
+    let longer = FIT + 1 + random.index(12);
+    let any = random.index(FIT);
+    let shorter = random.pick(&[0, any]);
+    let length = random.pick(&[FIT, FIT, FIT, FIT, FIT, FIT, longer, longer, FIT - 1, shorter]);
+    random.bytes(length)
 }
 
 /// A claim and a store. Bytes that are held are taken from the front of the piece.

@@ -32,6 +32,8 @@ pub struct Module {
     pub out_of_balance: bool,
     pub oxidizer_is_lesser: bool,
     pub lesser: u16,
+    /// Fuel less oxidizer, in tenths of a percent (document 02, order 10).
+    pub difference: i16,
 }
 
 /// Two masks of one string share a bit.
@@ -93,6 +95,8 @@ impl Hall {
                 out_of_balance: fuel.abs_diff(oxidizer) > 16,
                 oxidizer_is_lesser: oxidizer < fuel,
                 lesser: fuel.min(oxidizer),
+                // -1,000 to 1,000 by any feed. Of quantities above 1,000, handed in, what is left modulo 65,536.
+                difference: (i32::from(fuel) - i32::from(oxidizer)) as i16,
             };
         }
     }

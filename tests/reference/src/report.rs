@@ -1,8 +1,8 @@
-//! The report of a settled record, 34 bytes.
+//! The report of a settled record, 40 bytes.
 
 use crate::hall::Hall;
 
-pub const REPORT_LENGTH: usize = 34;
+pub const REPORT_LENGTH: usize = 40;
 
 #[derive(Clone, Debug, PartialEq, Eq)]
 pub struct Report {
@@ -12,6 +12,8 @@ pub struct Report {
     pub close: [u8; 4],
     pub balance: u8,
     pub lesser: [u16; 3],
+    /// Fuel less oxidizer.
+    pub difference: [i16; 3],
 }
 
 impl Report {
@@ -28,6 +30,7 @@ impl Report {
             close: [0, 1, 2, 3].map(|s| hall.strings[s].close_byte()),
             balance,
             lesser: hall.modules.map(|module| module.lesser),
+            difference: hall.modules.map(|module| module.difference),
         }
     }
 
@@ -42,13 +45,17 @@ impl Report {
         for quantity in self.lesser {
             bytes.extend(quantity.to_be_bytes());
         }
-        bytes.try_into().expect("a report has 34 bytes")
+        for difference in self.difference {
+            bytes.extend(difference.to_be_bytes());
+        }
+        bytes.try_into().expect("a report has 40 bytes")
     }
 
-    /// Reads the first 34 bytes back, for tests and messages.
+    /// Reads the first 40 bytes back, for tests and messages.
     pub fn read(bytes: &[u8]) -> Report {
         let word = |at: usize| u32::from_be_bytes(bytes[at..at + 4].try_into().unwrap());
         let quantity = |at: usize| u16::from_be_bytes(bytes[at..at + 2].try_into().unwrap());
+        let difference = |at: usize| i16::from_be_bytes(bytes[at..at + 2].try_into().unwrap());
         Report {
             answer: bytes[2],
             n: word(3),
@@ -56,6 +63,7 @@ impl Report {
             close: [11, 16, 21, 26].map(|at| bytes[at]),
             balance: bytes[27],
             lesser: [28, 30, 32].map(quantity),
+            difference: [34, 36, 38].map(difference),
         }
     }
 }

@@ -1,5 +1,6 @@
 //! Compares output, counts checks, says loudly which failed and ends the program accordingly.
 
+use crate::report::REPORT_LENGTH;
 use std::fmt::{Display, Formatter};
 use std::process::{exit, ExitCode};
 
@@ -94,7 +95,7 @@ pub fn same(output: Result<Vec<u8>, String>, part: &str, wanted: &[Vec<u8>]) -> 
     }
 }
 
-/// The bytes from a place on, as many as a line may have.
+/// The bytes from a place on, as many as a report has at most.
 fn shown(bytes: &[u8], at: usize) -> String {
-    format!("{:02x?}", &bytes[at..bytes.len().min(at + 34)])
+    format!("{:02x?}", &bytes[at..bytes.len().min(at + REPORT_LENGTH)])
 }

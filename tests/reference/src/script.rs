@@ -1,12 +1,12 @@
 //! Scripts for a program that makes single calls: any state handed in, then pieces and outboxes.
 //!
-//! A script has its kind (1), a hall (612, see `state`), the claimed count (2), the store (619),
+//! A script has its kind (1), a hall (618, see `state`), the claimed count (2), the store (619),
 //! the number of calls (2), then for each call the piece's length (2, at most 4,096), the piece,
 //! the outbox's length (1) and its contents. By kind 0 the calls begin with what the start over the
 //! hall's masks gives, but for the hall's n; by any other the whole hall is handed in as it stands.
 //! An input is any number of scripts, one after the other. The program says for each the start's
 //! answer to the hall's masks (1), whatever the kind, then for each call: answer (1), bytes used
-//! (2), the outbox, the hall (612), the count (2) and the whole store (619), the places behind the
+//! (2), the outbox, the hall (618), the count (2) and the whole store (619), the places behind the
 //! held bytes included. Numbers have the high byte first. The program stops silently at the end of
 //! its input, at a script that is incomplete, or at a piece that is longer than 4,096.
 
@@ -17,6 +17,7 @@ use crate::maps::{masks, refused_masks};
 use crate::monitor::{Monitor, MOST_HELD, STORE_LENGTH};
 use crate::random::Random;
 use crate::record::{MAJOR, MARK};
+use crate::report::REPORT_LENGTH;
 use crate::state::{hall_bytes, hall_from, masks_of, HALL_LENGTH};
 
 /// The kinds of script.
@@ -60,7 +61,7 @@ fn next_header<'a>(rest: &mut &'a [u8]) -> Option<(&'a [u8; STATE_LENGTH], u16)>
 /// The start's answer, and the monitor that the calls begin with.
 fn started(state: &[u8; STATE_LENGTH]) -> (u8, Monitor) {
     let (kind, rest) = state.split_first().expect("1 byte");
-    let (hall, rest) = rest.split_first_chunk().expect("612 bytes");
+    let (hall, rest) = rest.split_first_chunk().expect("a hall's bytes");
     let (held, store) = rest.split_first_chunk().expect("2 bytes");
     let held = u16::from_be_bytes(*held);
     let store = store.try_into().expect("619 bytes");
@@ -116,8 +117,7 @@ pub fn starts(maps: &[Masks]) -> Vec<u8> {
 fn too_long(random: &mut Random) -> Vec<u8> {
     let mut script = vec![0; STATE_LENGTH];
     script.extend([0, 9]);
-    script.extend([0, 0, 34]);
-    script.extend(random.bytes(34));
+    script.extend(call(&[], &random.bytes(REPORT_LENGTH)));
     let length = LONGEST_PIECE + 1 + random.index(3);
     script.extend((length as u16).to_be_bytes());
     script.extend(random.bytes(length));
@@ -201,8 +201,9 @@ fn piece(feed: &[u8], random: &mut Random) -> Vec<u8> {
 }
 
 fn outbox(random: &mut Random) -> Vec<u8> {
-    let any = random.index(41);
+    const FIT: usize = REPORT_LENGTH;
+    let any = random.index(FIT + 7);
     let large = random.index(256);
-    let length = random.pick(&[33, 34, 34, 34, 34, 35, 40, 0, any, any, large]);
+    let length = random.pick(&[FIT - 1, FIT, FIT, FIT, FIT, FIT + 1, FIT + 6, 0, any, any, large]);
     random.bytes(length)
 }

@@ -1,11 +1,11 @@
-//! A whole hall in 612 bytes, as scripts hand it in and get it back. Numbers have the high byte first.
+//! A whole hall in 618 bytes, as scripts hand it in and get it back. Numbers have the high byte first.
 //!
 //! n (4); for each string its masks (4 each); for each string the fail word, the valves and each
 //! manifold's saved set (4 each), the same of the good copy, off slots (newest, older, oldest), on slots
 //! (newest, older), recheck word, inhibits, re-enables and close word (4 each), and whether a path
 //! fault is remembered (1); for each module whether it is out of balance (1), whether the oxidizer
-//! is the lesser (1), and the lesser quantity (2). Yes is written as 1 and no as 0; any byte but 0
-//! is read as yes.
+//! is the lesser (1), the lesser quantity (2), and the difference (2, two's complement). Yes is written
+//! as 1 and no as 0; any byte but 0 is read as yes.
 
 use crate::feed::{masks_from, MASKS_LENGTH};
 use crate::hall::{Hall, Masks};
@@ -15,7 +15,7 @@ use std::array;
 
 /// Thirteen words of a string, and two for each of its manifolds.
 pub const STRING_WORDS: usize = 13 + 2 * MANIFOLDS;
-pub const HALL_LENGTH: usize = 4 + MASKS_LENGTH + 4 * (4 * STRING_WORDS + 1) + 3 * 4;
+pub const HALL_LENGTH: usize = 4 + MASKS_LENGTH + 4 * (4 * STRING_WORDS + 1) + 3 * 6;
 
 pub fn hall_from(bytes: &[u8; HALL_LENGTH]) -> Hall {
     let mut left = &bytes[..];
@@ -30,6 +30,7 @@ pub fn hall_from(bytes: &[u8; HALL_LENGTH]) -> Hall {
         module.out_of_balance = next_flag(&mut left);
         module.oxidizer_is_lesser = next_flag(&mut left);
         module.lesser = u16::from_be_bytes(*next(&mut left));
+        module.difference = i16::from_be_bytes(*next(&mut left));
     }
     hall
 }
@@ -96,8 +97,9 @@ pub fn hall_bytes(hall: &Hall) -> [u8; HALL_LENGTH] {
         bytes.push(module.out_of_balance.into());
         bytes.push(module.oxidizer_is_lesser.into());
         bytes.extend(module.lesser.to_be_bytes());
+        bytes.extend(module.difference.to_be_bytes());
     }
-    bytes.try_into().expect("a hall has 612 bytes")
+    bytes.try_into().expect("a hall's bytes")
 }
 
 pub fn masks_of(hall: &Hall) -> Masks {

@@ -12,7 +12,7 @@ use reference::maps::{masks, masks_of, union};
 use reference::monitor::STORE_LENGTH;
 use reference::random::Random;
 use reference::record::{sum, Record};
-use reference::report::Report;
+use reference::report::{Report, REPORT_LENGTH};
 use reference::state::{hall_bytes, hall_from, HALL_LENGTH};
 use reference::world::{name_both_ways, Chances, World};
 use reference::Monitor;
@@ -176,12 +176,12 @@ fn a_short_outbox_comes_before_it() {
     let mut post = Post::over(MAP);
     let record = both_ways(Record::quiet(25), 0, 1).bytes();
     let before = post.monitor.clone();
-    let mut short = [0xEE; 33];
+    let mut short = [0xEE; REPORT_LENGTH - 1];
     assert_eq!(post.monitor.call(&record, &mut short), (OUTBOX_SHORT, 0));
-    assert_eq!((post.monitor.clone(), short), (before, [0xEE; 33]));
-    let mut enough = [0xEE; 36];
+    assert_eq!((post.monitor.clone(), short), (before, [0xEE; REPORT_LENGTH - 1]));
+    let mut enough = [0xEE; REPORT_LENGTH + 2];
     assert_eq!(post.monitor.call(&record, &mut enough), (BOTH_WAYS, 619));
-    assert_eq!(enough[34..], [0xEE; 2]);
+    assert_eq!(enough[REPORT_LENGTH..], [0xEE; 2]);
 }
 
 #[test]
@@ -191,7 +191,7 @@ fn the_record_is_gone_and_what_it_hides_is_not_seen() {
     hiding.truncate(617);
     hiding.extend(sum(&hiding).to_be_bytes());
     let (_, mut monitor) = Monitor::start(MAP);
-    let mut outbox = [0; 34];
+    let mut outbox = [0; REPORT_LENGTH];
     assert_eq!(monitor.call(&hiding[..600], &mut outbox), (NOTHING_SETTLED, 600));
     let rest = [&hiding[600..], &Record::quiet(2).bytes()].concat();
     assert_eq!(monitor.call(&rest, &mut outbox), (BOTH_WAYS, 19));
@@ -204,7 +204,7 @@ fn the_record_is_gone_and_what_it_hides_is_not_seen() {
 fn no_bit_of_any_hall_changes() {
     let mut random = Random(19);
     for number in 0..400 {
-        let mut bytes: [u8; HALL_LENGTH] = random.bytes(HALL_LENGTH).try_into().expect("612 bytes");
+        let mut bytes: [u8; HALL_LENGTH] = random.bytes(HALL_LENGTH).try_into().expect("a hall's bytes");
         let n = random.word() / 25 * 25 + 24;
         bytes[..4].copy_from_slice(&n.to_be_bytes());
         let mut hall = hall_from(&bytes);

@@ -259,7 +259,7 @@ fn nothing_of_any_hall_depends_on_a_re_enable_behind_a_closed_valve() {
     let mut random = Random(31);
     let mut ignored = 0;
     for _ in 0..1_000 {
-        let bytes: [u8; HALL_LENGTH] = random.bytes(HALL_LENGTH).try_into().expect("612 bytes");
+        let bytes: [u8; HALL_LENGTH] = random.bytes(HALL_LENGTH).try_into().expect("a hall's bytes");
         let mut before = hall_from(&bytes);
         before.n = before.n / 25 * 25 + 24;
         // Jets on one manifold or so: of those on eight any, hardly one would be behind open valves alone.

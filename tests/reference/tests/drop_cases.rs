@@ -12,6 +12,7 @@ use reference::jet::MANIFOLDS;
 use reference::maps::masks_of;
 use reference::monitor::STORE_LENGTH;
 use reference::record::Record;
+use reference::report::REPORT_LENGTH;
 use reference::Monitor;
 
 /// One jet on each of manifolds 0 to 3 of string 1, and jet 0 on manifold 2 of string 3.
@@ -216,16 +217,16 @@ fn claimed(claim: u16, outbox: usize) -> Vec<String> {
 #[test]
 fn claims_of_held_bytes() {
     let held = "a claim of 615, 616, 617, 618, held, and to hold none would show";
-    assert_eq!(claimed(614, 34), [""; 0]);
-    assert_eq!(claimed(615, 34), [format!("{held}: [1, 0, 0, 0]")]);
-    assert_eq!(claimed(618, 34), [format!("{held}: [0, 0, 0, 1]")]);
+    assert_eq!(claimed(614, REPORT_LENGTH), [""; 0]);
+    assert_eq!(claimed(615, REPORT_LENGTH), [format!("{held}: [1, 0, 0, 0]")]);
+    assert_eq!(claimed(618, REPORT_LENGTH), [format!("{held}: [0, 0, 0, 1]")]);
     let none = "a claim of 619, 620, 65,535, holding none, and a whole record in the store would show";
-    assert_eq!(claimed(619, 34), [format!("{none}: [1, 0, 0]")]);
-    assert_eq!(claimed(65_535, 34), [format!("{none}: [0, 0, 1]")]);
+    assert_eq!(claimed(619, REPORT_LENGTH), [format!("{none}: [1, 0, 0]")]);
+    assert_eq!(claimed(65_535, REPORT_LENGTH), [format!("{none}: [0, 0, 1]")]);
     let given_back = "a claim of 618, 619, given back with answer 5";
-    assert_eq!(claimed(617, 33), [""; 0]);
-    assert_eq!(claimed(618, 33), [format!("{given_back}: [1, 0]")]);
-    assert_eq!(claimed(619, 33), [format!("{given_back}: [0, 1]")]);
+    assert_eq!(claimed(617, REPORT_LENGTH - 1), [""; 0]);
+    assert_eq!(claimed(618, REPORT_LENGTH - 1), [format!("{given_back}: [1, 0]")]);
+    assert_eq!(claimed(619, REPORT_LENGTH - 1), [format!("{given_back}: [0, 1]")]);
 }
 
 #[test]
@@ -235,7 +236,7 @@ fn a_claim_that_tells_nothing() {
     for claim in [618, 619] {
         before.hand_in(24, claim, [0; STORE_LENGTH]);
         let mut after = before.clone();
-        let said = after.call(&[], &mut [0; 34]);
+        let said = after.call(&[], &mut [0; REPORT_LENGTH]);
         let mut cases = ClaimCases::default();
         cases.add(&before, &[], said, &after);
         assert_eq!(met(cases), [""; 0]);

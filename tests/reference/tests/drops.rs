@@ -6,6 +6,7 @@ use common::{driver_on, with_major, Post, ALL, FULL_MAP, MAP, ONE_OF_EACH};
 use reference::hall::{Hall, Masks, BOTH_WAYS, COUNT_ENDED, OUTBOX_SHORT, REPEAT, STALE, TAKEN, WRONG_KIND};
 use reference::random::Random;
 use reference::record::{Record, StringMajor};
+use reference::report::REPORT_LENGTH;
 use reference::state::{hall_from, HALL_LENGTH};
 
 /// What a major record says of each string.
@@ -255,9 +256,9 @@ fn a_drop_in_any_other_record_that_is_refused_is_not_done() {
         assert_eq!(post.monitor, before);
     }
     let bytes = Record { wire: 125, ..asking.clone() }.bytes();
-    assert_eq!(post.monitor.call(&bytes, &mut [0; 33]), (OUTBOX_SHORT, 0));
+    assert_eq!(post.monitor.call(&bytes, &mut [0; REPORT_LENGTH - 1]), (OUTBOX_SHORT, 0));
     assert_eq!(close_words(&post.monitor.hall), [0xFF; 4]);
-    assert_eq!(post.monitor.call(&bytes, &mut [0; 34]), (TAKEN, 619));
+    assert_eq!(post.monitor.call(&bytes, &mut [0; REPORT_LENGTH]), (TAKEN, 619));
     assert_eq!(close_words(&post.monitor.hall), [0xFF, 0xFF, 0, 0xFF]);
 
     // 4,294,967,300 is a multiple of 25.
@@ -272,7 +273,7 @@ fn a_drop_in_any_other_record_that_is_refused_is_not_done() {
 fn nothing_of_any_hall_but_the_named_close_bits_changes() {
     let mut random = Random(29);
     for _ in 0..1_000 {
-        let bytes: [u8; HALL_LENGTH] = random.bytes(HALL_LENGTH).try_into().expect("612 bytes");
+        let bytes: [u8; HALL_LENGTH] = random.bytes(HALL_LENGTH).try_into().expect("a hall's bytes");
         let mut before = hall_from(&bytes);
         before.n = before.n / 25 * 25 + 24;
         let mut unasking = Record::of_values(true, &random.bytes(615));

@@ -112,10 +112,10 @@ fn high_bits_of_the_valves_name_nothing() {
 
 #[test]
 fn a_hall_is_read_as_it_was_written() {
-    let flags = [248, 365, 482, 599, 600, 601, 604, 605, 608, 609];
+    let flags = [248, 365, 482, 599, 600, 601, 606, 607, 612, 613];
     let mut random = Random(7);
     for _ in 0..200 {
-        let mut given: [u8; HALL_LENGTH] = random.bytes(HALL_LENGTH).try_into().expect("612 bytes");
+        let mut given: [u8; HALL_LENGTH] = random.bytes(HALL_LENGTH).try_into().expect("a hall's bytes");
         for place in flags {
             given[place] = random.pick(&[0, 0, 1, 2, 255]);
         }

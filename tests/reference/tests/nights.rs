@@ -1,4 +1,4 @@
-//! The nights to try of document 01, in its order, as orders 3, 6 and 7 of document 02 amend them.
+//! The nights to try of document 01, in its order, as orders 3, 6, 7 and 10 of document 02 amend them.
 
 mod common;
 
@@ -6,7 +6,7 @@ use common::{driver_on, no_pressure, with, with_major, Post, MAP};
 use reference::hall::{COUNT_ENDED, NOTHING_SETTLED, OUTBOX_SHORT, REPEAT, STALE, TAKEN};
 use reference::monitor::STORE_LENGTH;
 use reference::record::Record;
-use reference::report::Report;
+use reference::report::{Report, REPORT_LENGTH};
 use reference::Monitor;
 
 #[test]
@@ -18,9 +18,9 @@ fn first_record_gives_the_printed_report() {
     }
     record.extend([0x04, 0x9C]);
     let mut expected = vec![0x52, 0x52, 0x00, 0x00, 0x00, 0x00, 0x01];
-    expected.extend([0; 27]);
+    expected.extend([0; 33]);
 
-    let mut outbox = [0xEE; 34];
+    let mut outbox = [0xEE; 40];
     assert_eq!(Post::over(MAP).monitor.call(&record, &mut outbox), (TAKEN, 59));
     assert_eq!(outbox[..], expected);
 }
@@ -137,15 +137,15 @@ fn count_ends_at_4294967295() {
 }
 
 #[test]
-fn outbox_of_33_bytes_is_short_and_34_are_enough() {
+fn outbox_of_39_bytes_is_short_and_40_are_enough() {
     let mut post = Post::over(MAP);
     let before = post.monitor.clone();
     let record = Record::quiet(1).bytes();
-    let mut short = [0xEE; 33];
+    let mut short = [0xEE; 39];
     assert_eq!(post.monitor.call(&record, &mut short), (OUTBOX_SHORT, 0));
-    assert_eq!(short, [0xEE; 33]);
+    assert_eq!(short, [0xEE; 39]);
     assert_eq!(post.monitor, before);
-    let mut enough = [0xEE; 34];
+    let mut enough = [0xEE; 40];
     assert_eq!(post.monitor.call(&record, &mut enough), (TAKEN, 59));
     assert_eq!(Report::read(&enough).n, 1);
 }
@@ -154,9 +154,9 @@ fn outbox_of_33_bytes_is_short_and_34_are_enough() {
 fn empty_piece_with_nothing_held_uses_nothing() {
     let mut post = Post::over(MAP);
     let before = post.monitor.clone();
-    let mut outbox = [0xEE; 34];
+    let mut outbox = [0xEE; REPORT_LENGTH];
     assert_eq!(post.monitor.call(&[], &mut outbox), (NOTHING_SETTLED, 0));
-    assert_eq!(outbox, [0xEE; 34]);
+    assert_eq!(outbox, [0xEE; REPORT_LENGTH]);
     assert_eq!(post.monitor, before);
 }
 
@@ -170,7 +170,7 @@ fn false_major_gives_up_the_three_good_minors_inside() {
     piece.resize(619, 0);
 
     let (_, mut monitor) = Monitor::start(MAP);
-    let mut outbox = [0; 34];
+    let mut outbox = [0; REPORT_LENGTH];
     assert_eq!(monitor.call(&piece[..618], &mut outbox), (NOTHING_SETTLED, 618));
     assert_eq!(monitor.held, 618);
     for (piece, n) in [(&piece[618..], 1), (&[], 2), (&[], 3)] {

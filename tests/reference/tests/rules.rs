@@ -7,6 +7,7 @@ use reference::hall::{EMPTY_MAP, NOTHING_SETTLED, OUTBOX_SHORT, TAKEN};
 use reference::maps::masks_of;
 use reference::monitor::STORE_LENGTH;
 use reference::record::Record;
+use reference::report::REPORT_LENGTH;
 use reference::Monitor;
 
 #[test]
@@ -24,7 +25,7 @@ fn records_with_reserved_bits_or_large_quantities_are_dropped() {
     quantity.major.as_mut().unwrap().quantities[2][1] = 1_001;
     for bytes in [path, quantity].map(|record| record.bytes()) {
         let (_, mut monitor) = Monitor::start(MAP);
-        assert_eq!(monitor.call(&bytes, &mut [0; 34]), (NOTHING_SETTLED, bytes.len()));
+        assert_eq!(monitor.call(&bytes, &mut [0; REPORT_LENGTH]), (NOTHING_SETTLED, bytes.len()));
         assert_eq!(monitor.held, 0);
     }
 }
@@ -72,9 +73,9 @@ fn claim_above_618_holds_nothing_but_answer_5_gives_it_back() {
         let (_, mut monitor) = Monitor::start(MAP);
         monitor.hand_in(7, claim, [0x52; STORE_LENGTH]);
         let before = monitor.clone();
-        assert_eq!(monitor.call(&[1, 2, 3], &mut [0; 33]), (OUTBOX_SHORT, 0));
+        assert_eq!(monitor.call(&[1, 2, 3], &mut [0; REPORT_LENGTH - 1]), (OUTBOX_SHORT, 0));
         assert_eq!(monitor, before);
-        assert_eq!(monitor.call(&[], &mut [0; 34]), (NOTHING_SETTLED, 0));
+        assert_eq!(monitor.call(&[], &mut [0; REPORT_LENGTH]), (NOTHING_SETTLED, 0));
         assert_eq!((monitor.hall.n, monitor.held, monitor.store), (7, 0, [0; STORE_LENGTH]));
     }
 }
@@ -85,9 +86,9 @@ fn bytes_behind_a_settled_record_wait_and_those_behind_the_held_ones_go() {
     store[..59].copy_from_slice(&Record::quiet(1).bytes());
     let (_, mut monitor) = Monitor::start(MAP);
     monitor.hand_in(0, 70, store);
-    assert_eq!(monitor.call(&[1, 2, 3], &mut [0; 34]), (TAKEN, 0));
+    assert_eq!(monitor.call(&[1, 2, 3], &mut [0; REPORT_LENGTH]), (TAKEN, 0));
     assert_eq!(monitor.held, 11);
     assert_eq!(monitor.store[..], [vec![0xEE; 11], vec![0; 608]].concat());
-    assert_eq!(monitor.call(&[1, 2, 3], &mut [0; 34]), (NOTHING_SETTLED, 3));
+    assert_eq!(monitor.call(&[1, 2, 3], &mut [0; REPORT_LENGTH]), (NOTHING_SETTLED, 3));
     assert_eq!(monitor.held, 0);
 }

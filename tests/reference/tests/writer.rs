@@ -8,6 +8,7 @@ use reference::hall::{BOTH_WAYS, TAKEN, WRONG_KIND};
 use reference::random::Random;
 use reference::reader::look;
 use reference::record::{Record, MAJOR_LENGTH, MINOR_LENGTH};
+use reference::report::REPORT_LENGTH;
 use reference::request_input::request;
 use reference::writer::{write, LARGE_QUANTITY, RESERVED_BIT, SHORT_OUTBOX, WRITTEN};
 use reference::Monitor;
@@ -226,7 +227,7 @@ fn what_the_monitor_may_refuse_is_written() {
         let (said, bytes) = written(&record, length(&record));
         assert_eq!(said, WRITTEN, "{record:?}");
         let (_, mut monitor) = Monitor::start(WIDE_MAP);
-        assert_eq!(monitor.call(&bytes, &mut [0; 34]), (answer, bytes.len()), "{record:?}");
+        assert_eq!(monitor.call(&bytes, &mut [0; REPORT_LENGTH]), (answer, bytes.len()), "{record:?}");
     }
 }
 

@@ -5,7 +5,7 @@ use reference::hall::Masks;
 use reference::jet::{ALL_MANIFOLDS, MANIFOLDS};
 use reference::maps::masks_of;
 use reference::record::{Record, StringMajor, StringWords};
-use reference::report::Report;
+use reference::report::{Report, REPORT_LENGTH};
 use reference::Monitor;
 
 pub const NO_JETS: [u32; MANIFOLDS] = [0; MANIFOLDS];
@@ -45,7 +45,7 @@ impl Post {
     /// Sends one whole record and reads its report.
     pub fn send(&mut self, record: &Record) -> Report {
         let bytes = record.bytes();
-        let mut outbox = [0xEE; 40];
+        let mut outbox = [0xEE; REPORT_LENGTH + 6];
         let (answer, used) = self.monitor.call(&bytes, &mut outbox);
         let report = Report::read(&outbox);
         assert_eq!((answer, used), (report.answer, bytes.len()));
