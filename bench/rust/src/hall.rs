@@ -12,7 +12,7 @@ pub const MASKS_LENGTH: usize = STRINGS * MANIFOLDS * MASK_LENGTH;
 const MODULES: usize = 3;
 const MAJOR_EVERY: u32 = 25;
 const MOST_APART: u16 = 16;
-pub const REPORT_LENGTH: usize = 34;
+pub const REPORT_LENGTH: usize = 40;
 
 const TAKEN: u8 = 0;
 const STALE: u8 = 1;
@@ -30,6 +30,8 @@ pub struct Hall {
     lost: u8,
     balance: u8,
     lesser: [u16; MODULES],
+    /// Fuel less oxidizer.
+    difference: [i16; MODULES],
 }
 
 #[derive(Clone, Copy)]
@@ -69,7 +71,14 @@ impl Hall {
         let overlap = strings.iter().any(|string: &JetString| {
             string.masks.iter().map(|mask| mask.count_ones()).sum::<u32>() != string.mapped.count_ones()
         });
-        (!overlap).then_some(Hall { n: 0, strings, lost: 0, balance: 0, lesser: [0; MODULES] })
+        (!overlap).then_some(Hall {
+            n: 0,
+            strings,
+            lost: 0,
+            balance: 0,
+            lesser: [0; MODULES],
+            difference: [0; MODULES],
+        })
     }
 
     /// Takes or refuses a record: the part that both kinds have, and the whole of a major one.
@@ -192,6 +201,7 @@ impl Hall {
             self.balance |= u8::from(fuel.abs_diff(oxidizer) > MOST_APART) << module;
             self.balance |= u8::from(oxidizer < fuel) << (4 + module);
             self.lesser[module] = fuel.min(oxidizer);
+            self.difference[module] = fuel as i16 - oxidizer as i16;
         }
     }
 
@@ -204,8 +214,11 @@ impl Hall {
             part[4] = string.close;
         }
         report[27] = self.balance;
-        for (lesser, part) in self.lesser.iter().zip(report[28..].chunks_exact_mut(2)) {
+        for (lesser, part) in self.lesser.iter().zip(report[28..34].chunks_exact_mut(2)) {
             part.copy_from_slice(&lesser.to_be_bytes());
+        }
+        for (difference, part) in self.difference.iter().zip(report[34..].chunks_exact_mut(2)) {
+            part.copy_from_slice(&difference.to_be_bytes());
         }
     }
 }
