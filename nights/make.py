@@ -7,7 +7,7 @@ import sys
 
 HERE = pathlib.Path(__file__).resolve().parent
 sys.path.append(str(HERE.parent / "tests/nights"))
-from records import ALL_OPEN, JETS, MANIFOLDS, QUIET, STRINGS, map_bytes, masks_of, record, word_of
+from records import ALL_OPEN, JETS, MAJOR_EVERY, MANIFOLDS, QUIET, STRINGS, map_bytes, masks_of, record, word_of
 
 # Every string has four jets on each of its eight manifolds: 0 to 3, 4 to 7, and so on up to 28 to 31.
 EACH = JETS // MANIFOLDS
@@ -242,6 +242,27 @@ def tenants_record(cycle, neighbour=False, requests={}):
     return record(cycle, 0, strings, temps, requests, {0: (500 - blown_off, 500)}, drops)
 
 
+def banks_apart(with_old=True, damaged=True, paths=(1 << STRINGS) - 1):
+    """Module 1: its fuel bank leaks where no jet shows it, then is refilled beyond the other and let off. The banks of module 0 fall alike.
+    Old: record 50 comes back at 80. Damaged: record 150 has a wrong byte. Paths: those that fail from 170 to 180."""
+    feed = [map_bytes(HALL)]
+    fuel = {25: 500, 50: 496, 75: 492, 100: 488, 125: 484, 150: 480, 175: 476, 200: 492, 225: 508, 250: 517, 275: 516, 300: 500}
+
+    def at(cycle):
+        used = 2 * cycle // MAJOR_EVERY
+        banks = {0: (500 - used, 500 - used), 1: (fuel.get(cycle), 500), 2: (500, 497)}
+        return record(cycle, paths if 170 <= cycle <= 180 else 0, banks=banks)
+
+    for cycle in range(1, 311):
+        sent = at(cycle)
+        if cycle == 150 and damaged:
+            sent = sent[:609] + b"\x00" + sent[610:]  # in the fuel quantity of module 1: 224 for 480
+        feed.append(sent)
+        if cycle == 80 and with_old:
+            feed.append(at(50))
+    return b"".join(feed)
+
+
 def with_zero_masks(old):
     """The map of 128 bytes for a table of four manifolds: sixteen bytes of 00 behind each string's sixteen."""
     return map_bytes([masks_of(*string) for string in old])
@@ -265,6 +286,7 @@ NIGHTS = {
     "10-reenable-too-early": reenable_too_early,
     "11-tenant-alone": tenant_alone,
     "12-tenant-with-neighbour": tenant_with_neighbour,
+    "13-banks-apart": banks_apart,
 }
 
 

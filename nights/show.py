@@ -3,6 +3,7 @@
 import struct
 import sys
 
+REPORT = 40  # bytes of a report
 ANSWERS = {0: "taken", 1: "stale", 2: "repeat", 3: "count ended", 4: "wrong kind", 7: "a jet named both ways"}
 
 
@@ -17,18 +18,18 @@ def seen(report):
         fail, close = struct.unpack_from(">IB", report, 7 + 5 * s)
         shown[f"string {s}: failed jets"] = bits(fail)
         shown[f"string {s}: CLOSE manifolds"] = bits(close)
-    balance = report[27]
-    for m in range(3):
-        lesser = struct.unpack_from(">H", report, 28 + 2 * m)[0]
+    balance, *banks = struct.unpack_from(">B3H3h", report, 27)
+    for m, (lesser, difference) in enumerate(zip(banks[:3], banks[3:])):
         bank = "oxidizer" if balance >> (4 + m) & 1 else "fuel"
-        shown[f"module {m}"] = f"OUT OF BALANCE, {bank} is the lesser at {lesser / 10}%" if balance >> m & 1 else "in balance"
+        apart = f"{abs(difference) / 10}% apart, {bank} is the lesser" if difference else "even"
+        shown[f"module {m}"] = f"OUT OF BALANCE, {apart} at {lesser / 10}%" if balance >> m & 1 else f"in balance, {apart}"
     return shown
 
 
 def main():
     sys.stdout.reconfigure(line_buffering=True)  # a live feed is shown as it comes
-    before, last = seen(bytes(34)), 0
-    while len(report := sys.stdin.buffer.read(34)) == 34:
+    before, last = seen(bytes(REPORT)), 0
+    while len(report := sys.stdin.buffer.read(REPORT)) == REPORT:
         answer, n = struct.unpack_from(">BI", report, 2)
         if answer:
             print(f"cycle {n}: a record was not taken: {answer}, {ANSWERS.get(answer, 'unknown')}")
