@@ -98,12 +98,13 @@ impl Night {
         feed
     }
 
-    /// A record before which some valves have moved, and by which some paths fail.
+    /// A record before which some valves have moved, and by which some paths fail, now and then all.
     fn valves_move(&mut self, cycle: u64) -> Record {
         self.world.move_valves(&mut self.random);
         let mut record = self.record(cycle);
+        let all = self.random.one_in(20);
         for s in 0..4 {
-            record.path |= u8::from(self.random.one_in(5)) << s;
+            record.path |= u8::from(all || self.random.one_in(5)) << s;
         }
         record
     }

@@ -3,11 +3,13 @@
 use crate::both_ways_cases::BothWaysCases;
 use crate::claim_cases::ClaimCases;
 use crate::closed_valve_cases::ClosedValveCases;
+use crate::difference_cases::DifferenceCases;
 use crate::drop_cases::DropCases;
 use crate::hall::{Hall, TAKEN};
 use crate::leak_cases::LeakCases;
 use crate::lost_cases::LostCases;
 use crate::manifold_cases::ManifoldCases;
+use crate::outbox_cases::OutboxCases;
 use crate::record::Record;
 use crate::state::masks_of;
 use std::fmt;
@@ -19,9 +21,11 @@ pub struct Counted {
     pub drops: DropCases,
     pub manifolds: ManifoldCases,
     pub closed_valves: ClosedValveCases,
+    pub differences: DifferenceCases,
     pub lost: LostCases,
-    /// No feed hands in a state.
+    /// No feed hands in a state, or lends an outbox.
     pub claims: Option<ClaimCases>,
+    pub outboxes: Option<OutboxCases>,
 }
 
 impl Counted {
@@ -32,8 +36,10 @@ impl Counted {
             drops: DropCases::of_feeds(),
             manifolds: ManifoldCases::default(),
             closed_valves: ClosedValveCases::of_feeds(),
+            differences: DifferenceCases::of_feeds(),
             lost: LostCases::default(),
             claims: None,
+            outboxes: None,
         }
     }
 
@@ -44,8 +50,10 @@ impl Counted {
             drops: DropCases::of_halls(),
             manifolds: ManifoldCases::default(),
             closed_valves: ClosedValveCases::of_halls(),
+            differences: DifferenceCases::of_halls(),
             lost: LostCases::default(),
             claims: Some(ClaimCases::default()),
+            outboxes: Some(OutboxCases::default()),
         }
     }
 
@@ -56,6 +64,7 @@ impl Counted {
         self.drops.add_feed(input);
         self.manifolds.add_feed(input);
         self.closed_valves.add_feed(input);
+        self.differences.add_feed(input);
         self.lost.add_feed(input);
     }
 
@@ -64,6 +73,7 @@ impl Counted {
         self.both_ways.begin();
         self.drops.begin();
         self.closed_valves.begin();
+        self.differences.begin();
         self.manifolds.add_map(&masks_of(hall));
     }
 
@@ -83,6 +93,7 @@ impl Counted {
             self.drops.add(answer, before, record, after);
             self.manifolds.add(answer, before, record, after);
             self.closed_valves.add(answer, before, record, after);
+            self.differences.add(answer, before, record, after);
             if answer == TAKEN {
                 self.leaks.add_call(record, after);
             }
@@ -96,8 +107,10 @@ impl Counted {
         self.drops.each_met(least)?;
         self.manifolds.each_met(least)?;
         self.closed_valves.each_met(least)?;
+        self.differences.each_met(least)?;
         self.lost.each_met(least)?;
-        self.claims.iter().try_for_each(|claims| claims.each_met(least))
+        self.claims.iter().try_for_each(|claims| claims.each_met(least))?;
+        self.outboxes.iter().try_for_each(|outboxes| outboxes.each_met(least))
     }
 }
 
@@ -108,7 +121,9 @@ impl fmt::Display for Counted {
         write!(lines, "close bits dropped:\n{}", self.drops)?;
         write!(lines, "manifolds:\n{}", self.manifolds)?;
         write!(lines, "re-enables behind closed valves:\n{}", self.closed_valves)?;
+        write!(lines, "the banks' differences:\n{}", self.differences)?;
         write!(lines, "records lost:\n{}", self.lost)?;
-        self.claims.iter().try_for_each(|claims| write!(lines, "claims of held bytes:\n{claims}"))
+        self.claims.iter().try_for_each(|claims| write!(lines, "claims of held bytes:\n{claims}"))?;
+        self.outboxes.iter().try_for_each(|outboxes| write!(lines, "outboxes:\n{outboxes}"))
     }
 }

@@ -45,6 +45,9 @@ pub fn script(seed: u64, cases: &mut ForeignCases, counted: &mut Counted) -> Vec
         let (answer, used) = monitor.call(&piece, &mut outbox);
         cases.add(answer);
         counted.add_call(answer, &before.hall, settled.as_ref(), &monitor.hall, &lost);
+        if let Some(outboxes) = &mut counted.outboxes {
+            outboxes.add(outbox.len(), answer, &before.hall, settled.as_ref());
+        }
         for claims in counted.claims.iter_mut().filter(|_| number == 0) {
             claims.add(&before, &piece, (answer, used), &monitor);
         }
@@ -113,7 +116,7 @@ fn hall(random: &mut Random) -> [u8; HALL_LENGTH] {
     for _ in 0..3 {
         bytes.extend([flag(random), flag(random)]);
         bytes.extend((random.word() as u16).to_be_bytes());
-        bytes.extend((random.word() as i16).to_be_bytes());
+        bytes.extend(difference(random).to_be_bytes());
     }
     bytes.try_into().expect("a hall's bytes")
 }
@@ -135,6 +138,13 @@ fn manifolds_word(random: &mut Random) -> u32 {
     let high = random.word() & !ALL_MANIFOLDS;
     let next = ALL_MANIFOLDS + 1;
     random.pick(&[low, low, low, 0, ALL_MANIFOLDS, low | high, low | high, low | next, low | 0x8000_0000])
+}
+
+/// Any, often one that a feed may bring, whether or not it fits the rest of the module.
+fn difference(random: &mut Random) -> i16 {
+    let any = random.word() as i16;
+    let allowed = random.below(2_001) as i16 - 1_000;
+    random.pick(&[any, any, allowed, allowed, 0, 16, 17, -16, -17])
 }
 
 /// Any byte but 0 says yes.
@@ -244,9 +254,12 @@ fn one_way(mut record: Record, hall: &Hall, random: &mut Random) -> Record {
     record
 }
 
-/// The record for the next major cycle, with other drops, and often without requests for jets.
+/// The record for the next major cycle, with other drops and quantities, and often without requests for jets.
 fn at_next_major(mut record: Record, random: &mut Random) -> Record {
     record.wire = record.wire.wrapping_add(25);
+    for banks in record.major.iter_mut().flat_map(|major| &mut major.quantities) {
+        *banks = quantities(random);
+    }
     for string in record.major.iter_mut().flat_map(|major| &mut major.strings) {
         string.drops = if random.one_in(2) { 0 } else { drops(random) };
         if random.one_in(2) {

@@ -44,8 +44,8 @@ const CASES: [Named<Seen>; 17] = [
     ("before a record that is taken: cycles missed, a major one missed", 2, |seen| seen.own(14..16)),
     (
         "reports differ: in its neighbours' fail bits, their close bits, other strings' fail words, close bytes, \
-         the balance, the lesser quantities",
-        6,
+         the balance, the lesser quantities, the differences",
+        7,
         reports_differ,
     ),
     (
@@ -146,7 +146,7 @@ fn which<const N: usize>(holds: [bool; N]) -> Vec<usize> {
 
 fn reports_differ(seen: &Seen) -> Vec<usize> {
     let Tenant { string, mask, .. } = seen.pair.tenant;
-    let mut differ = [false; 6];
+    let mut differ = [false; 7];
     for (one, other) in seen.nights[0].of_taken().zip(seen.nights[1].of_taken()) {
         for s in 0..4 {
             let (its_own, at) = if s == string { (mask, 0) } else { (0, 2) };
@@ -155,6 +155,7 @@ fn reports_differ(seen: &Seen) -> Vec<usize> {
         }
         differ[4] |= one.balance != other.balance;
         differ[5] |= one.lesser != other.lesser;
+        differ[6] |= one.difference != other.difference;
     }
     which(differ)
 }

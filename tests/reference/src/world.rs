@@ -273,10 +273,12 @@ fn warm(random: &mut Random) -> u16 {
     random.pick(&[64, 32_767, 64, 32_767, 65, 32_766, single_bit, any, any, any])
 }
 
-/// Quantities often close to the border of 16 tenths, either way round.
+/// Any quantities, or two that are equal, or apart by about the 16 tenths of the border, by about what a byte holds
+/// or by about all that can be, either way round.
 pub fn quantities(random: &mut Random) -> [u16; 2] {
-    let one = random.below(1_001) as u16;
-    let any = random.below(1_001) as u16;
-    let near = (one + random.pick(&[0, 1, 15, 16, 17, 18])).min(1_000);
-    random.pick(&[[one, any], [one, near], [near, one]])
+    let any = [(); 2].map(|_| random.below(1_001) as u16);
+    let apart = random.pick(&[0, 1, 15, 16, 17, 18, 255, 256, 257, 999, 1_000]);
+    let less = random.below(1_001 - apart) as u16;
+    let more = less + apart as u16;
+    random.pick(&[any, [less, more], [more, less]])
 }

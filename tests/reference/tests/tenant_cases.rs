@@ -146,17 +146,25 @@ fn what_is_not_the_tenants_differs() {
     assert_eq!(against_quiet(driver_on(1, 1, 4)), [records("0, 0, 0, 0, 0, 0, 0, 0, 0, 0, 1")]);
     assert_eq!(against_quiet(driver_on(1, 2, 4)), [records("0, 1, 0, 0, 0, 0, 0, 0, 0, 0, 0")]);
     let closed = |s| with(1, s, |words| words.valves = 1);
-    let neighbours = [reports("1, 0, 0, 0, 0, 0"), records("0, 0, 0, 0, 0, 1, 0, 0, 0, 0, 0")];
+    let neighbours = [reports("1, 0, 0, 0, 0, 0, 0"), records("0, 0, 0, 0, 0, 1, 0, 0, 0, 0, 0")];
     assert_eq!(against_quiet(closed(1)), neighbours);
     let of_others = with(1, 2, |words| words.valves = 0);
     assert_eq!(
         against_quiet(of_others),
-        [reports("0, 0, 1, 0, 0, 0"), records("0, 1, 0, 0, 0, 0, 0, 0, 0, 0, 0")]
+        [reports("0, 0, 1, 0, 0, 0, 0"), records("0, 1, 0, 0, 0, 0, 0, 0, 0, 0, 0")]
     );
-    let mut fuller = Record::quiet(25);
-    fuller.major.as_mut().expect("a major record").quantities = [[20, 0], [7, 7], [0, 0]];
-    let feeds = [fuller, Record::quiet(25)].map(|record| bytes(&[record]));
-    assert_eq!(met(feeds), [case(MISSED, "1, 0"), reports("0, 0, 0, 0, 1, 1")]);
+    for (one, other, counts) in [
+        ([[20, 0], [7, 7], [0, 0]], [[0, 0], [0, 0], [0, 0]], "0, 0, 0, 0, 1, 1, 1"),
+        ([[0, 0], [7, 7], [0, 0]], [[0, 0], [0, 0], [0, 0]], "0, 0, 0, 0, 0, 1, 0"),
+        ([[0, 0], [0, 0], [1, 0]], [[0, 0], [0, 0], [2, 0]], "0, 0, 0, 0, 0, 0, 1"),
+    ] {
+        let feeds = [one, other].map(|quantities| {
+            let mut record = Record::quiet(25);
+            record.major.as_mut().expect("a major record").quantities = quantities;
+            bytes(&[record])
+        });
+        assert_eq!(met(feeds), [case(MISSED, "1, 0"), reports(counts)]);
+    }
 }
 
 #[test]
