@@ -52,6 +52,8 @@ def night():
         if cycle in (150, 175, 200, 225):
             # jet 31 of string 1 leaks, and its injector falls below zero: failed at 175, manifold 3 to be closed at 200
             temps[(1, 31)] = ({150: 63, 175: word_of(-1), 200: word_of(-32768), 225: 12}[cycle], 500)
+        if cycle in (125, 150, 175):
+            banks[2] = ({125: 484, 150: 483, 175: 200}[cycle], 500)  # module 2 loses fuel: -16, -17, -300; at 200 it is filled up again
         if cycle in (225, 250, 275):
             drops[1] = 0b1000  # at 225 jet 31 still leaks and the bit comes back, at 250 the drop is lost, at 275 it is done
         if 70 <= cycle < 80:
@@ -60,7 +62,7 @@ def night():
             path = 2  # that of string 1 does
         if cycle == 225:
             requests[0] = (0, 0x04)  # jet 2 is re-enabled
-            banks[1] = (517, 500)  # module 1 out of balance
+            banks[1] = (517, 500)  # module 1 out of balance, by 17
             # first named both ways: refused, and sent again
             out.append(record(cycle, path, strings, temps, {0: (0x04, 0x04)}, banks, drops))
         if 250 <= cycle < 275:
