@@ -6,68 +6,70 @@ use crate::hall::{Hall, Module, BOTH_WAYS, COUNT_ENDED, OUTBOX_SHORT, REPEAT, ST
 use crate::record::Record;
 use std::fmt;
 
-/// Each variant is one of each module, those of module 0 first.
+const MODULES: usize = 3;
+/// The variants of each module, those of module 0 first.
 const CASES: [Named<Weighing>; 11] = [
-    ("brought by a major, each module: above 0, below 0, exactly 0", 3 * 3, |weighing| {
+    ("brought by a major, each module: above 0, below 0, exactly 0", MODULES * 3, |weighing| {
         weighing.brought(|said| [said > 0, said < 0, said == 0])
     }),
-    ("brought, each module: exactly 16, 17, -16, -17, 256, -256, 1,000, -1,000", 3 * 8, |weighing| {
+    ("brought, each module: exactly 16, 17, -16, -17, 256, -256, 1,000, -1,000", MODULES * 8, |weighing| {
         weighing.brought(|said| [16, 17, -16, -17, 256, -256, 1_000, -1_000].map(|exact| said == exact))
     }),
-    ("brought, each module: above 255, below -255", 3 * 2, |weighing| {
+    ("brought, each module: above 255, below -255", MODULES * 2, |weighing| {
         weighing.brought(|said| [said > 255, said < -255])
     }),
-    ("brought, each module: unlike those of both others", 3, |weighing| {
+    ("brought, each module: unlike those of both others", MODULES, |weighing| {
         weighing.brought(|_| [weighing.is_unlike_others])
     }),
     (
         "one major after another, each module: from above 0 to below, from below to above, to 0, from 0",
-        3 * 4,
+        MODULES * 4,
         one_after_another,
     ),
     (
         "changed by a major, each module: it stays balanced, stays out of balance, comes out of it, comes into it",
-        3 * 4,
+        MODULES * 4,
         by_balance,
     ),
     (
         "changed by a major, each module: where the path of string 0, 1, 2, 3 alone has failed, where all have",
-        3 * 5,
+        MODULES * 5,
         by_paths,
     ),
-    ("held over a minor, each module: above 0, below 0", 3 * 2, |weighing| {
+    ("held over a minor, each module: above 0, below 0", MODULES * 2, |weighing| {
         weighing.held(|held| [held > 0, held < 0].map(|holds| holds && weighing.is_taken()))
     }),
-    ("held over a minor behind a missed major, each module: other than 0", 3, |weighing| {
+    ("held over a minor behind a missed major, each module: other than 0", MODULES, |weighing| {
         weighing.held(|held| [held != 0 && weighing.is_taken() && weighing.major_missed])
     }),
-    ("held over a record, each module, other than 0: answered 1, 2, 4, 7", 3 * 4, |weighing| {
+    ("held over a record, each module, other than 0: answered 1, 2, 4, 7", MODULES * 4, |weighing| {
         weighing.held(|held| REFUSALS.map(|answer| held != 0 && weighing.answer == answer))
     }),
-    ("held over a major that says another, each module: answered 1, 2, 4, 7", 3 * 4, |weighing| {
+    ("held over a major that says another, each module: answered 1, 2, 4, 7", MODULES * 4, |weighing| {
         weighing.held(|held| REFUSALS.map(|answer| weighing.says_another(held) && weighing.answer == answer))
     }),
 ];
 const REFUSALS: [u8; 4] = [STALE, REPEAT, WRONG_KIND, BOTH_WAYS];
-/// From fresh each difference fits the rest of its module, and no feed has the outbox or comes to the count's end.
+/// From fresh each difference fits the rest of its module; and a feed lends no outbox, nor does one come to the count's
+/// end.
 const OF_HALLS: [Named<Weighing>; 4] = [
-    ("held over a major that says another, each module: answered 3, 5", 3 * 2, |weighing| {
+    ("held over a major that says another, each module: answered 3, 5", MODULES * 2, |weighing| {
         let refusals = [COUNT_ENDED, OUTBOX_SHORT];
         weighing.held(|held| refusals.map(|answer| weighing.says_another(held) && weighing.answer == answer))
     }),
     (
         "handed in and unlike the balance, the lesser, beyond 1,000, each module: held over a minor",
-        3 * 3,
+        MODULES * 3,
         |weighing| weighing.held(|_| weighing.misfits().map(|misfit| misfit && weighing.is_taken())),
     ),
     (
         "handed in and unlike the balance, the lesser, beyond 1,000, each module: held over a record refused",
-        3 * 3,
+        MODULES * 3,
         |weighing| weighing.held(|_| weighing.misfits().map(|misfit| misfit && !weighing.is_taken())),
     ),
     (
         "handed in and unlike the balance, the lesser, beyond 1,000, each module: replaced by a major",
-        3 * 3,
+        MODULES * 3,
         |weighing| weighing.brought(|said| weighing.misfits().map(|misfit| misfit && weighing.had() != said)),
     ),
 ];
@@ -120,14 +122,14 @@ impl DifferenceCases {
             .major
             .as_ref()
             .map(|major| major.quantities.map(|[fuel, oxidizer]| i32::from(fuel) - i32::from(oxidizer)));
-        for number in 0..3 {
+        for number in 0..MODULES {
             let is_like = |other: usize| said.is_some_and(|said| said[other] == said[number]);
             self.cases.add(&Weighing {
                 number,
                 before: before.modules[number],
                 after: after.modules[number],
                 was_weighed: self.is_weighed,
-                is_unlike_others: (0..3).all(|other| other == number || !is_like(other)),
+                is_unlike_others: (0..MODULES).all(|other| other == number || !is_like(other)),
                 answer,
                 path: record.path,
                 major_missed: after.n > before.n && (after.n - 1) / 25 > before.n / 25,

@@ -15,7 +15,9 @@ use std::array;
 
 /// Thirteen words of a string, and two for each of its manifolds.
 pub const STRING_WORDS: usize = 13 + 2 * MANIFOLDS;
-pub const HALL_LENGTH: usize = 4 + MASKS_LENGTH + 4 * (4 * STRING_WORDS + 1) + 3 * 6;
+/// Two flags of a module, its lesser quantity and its difference.
+const MODULE_LENGTH: usize = 1 + 1 + 2 + 2;
+pub const HALL_LENGTH: usize = 4 + MASKS_LENGTH + 4 * (4 * STRING_WORDS + 1) + 3 * MODULE_LENGTH;
 
 pub fn hall_from(bytes: &[u8; HALL_LENGTH]) -> Hall {
     let mut left = &bytes[..];
