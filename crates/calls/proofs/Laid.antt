@@ -21,7 +21,7 @@ use Rattle.feed.specs.Bytes.{two, four, inFour, parts}
 use Rattle.feed.proofs.Reports.Parts.{getD-past, parts-length, parts-same}
 use Rattle.feed.proofs.Reports.Written.{put-next}
 use Rattle.calls.specs.Layout.{standingWords, offFrom, onFrom, overFrom, closeAt, stringWords, wordsLength}
-use Rattle.calls.specs.Layout.{stringLength, bankLength, masksFrom, stringsFrom, banksFrom, hallLength}
+use Rattle.calls.specs.Layout.{stringLength, lesserAt, differenceAt, bankLength, masksFrom, stringsFrom, banksFrom, hallLength}
 use Rattle.calls.specs.Layout.{flagIn, wordIn, perManifold, standingIn, stringIn, masksIn, bankIn, hallIn}
 use Rattle.calls.specs.Layout.{inFlag, inWords, stringWordsOf, inString, inBank, inMap, inStrings, inBanks, inHall}
 
@@ -52,9 +52,10 @@ module _ (l : List ℕ) (i : ℕ) where
   pub masks-read : {w : List ℕ} → w ≡ perManifold l i 0 → _≡_ {A = Masks} (record { words = w }) (masksIn l i)
   masks-read e = rw e refl
 
-  pub bank-read : {u o : Bool} {q : ℕ} → u ≡ flagIn l i → o ≡ flagIn l (i + 1) → q ≡ two l (i + 2)
-      → _≡_ {A = Bank} (record { unbalanced = u; oxidizer = o; lesser = q }) (bankIn l i)
-  bank-read e f g = rw (e, f, g) refl
+  pub bank-read : {u o : Bool} {q d : ℕ} → u ≡ flagIn l i → o ≡ flagIn l (i + 1) → q ≡ two l (i + lesserAt)
+      → d ≡ two l (i + differenceAt)
+      → _≡_ {A = Bank} (record { unbalanced = u; oxidizer = o; lesser = q; difference = d }) (bankIn l i)
+  bank-read e f g h = rw (e, f, g, h) refl
 
 -- the masks of string s, string s and bank m
 module _ (l : List ℕ) where

@@ -23,7 +23,8 @@ use Rattle.feed.proofs.Records.NumbersInBytes.{two-inTwo, four-inFour, two-stan
 use Rattle.feed.proofs.Records.Tables.{table-length, table-at}
 use Rattle.feed.proofs.Reports.Parts.{getD-past}
 use Rattle.feed.proofs.Reports.Stands.{Stands, front, back, part}
-use Rattle.calls.specs.Layout.{standingWords, stringWords, wordsLength, stringLength, bankLength, masksFrom, stringsFrom, banksFrom}
+use Rattle.calls.specs.Layout.{standingWords, stringWords, wordsLength, stringLength, lesserAt, differenceAt, bankLength}
+use Rattle.calls.specs.Layout.{masksFrom, stringsFrom, banksFrom}
 use Rattle.calls.specs.Layout.{flagIn, wordIn, standingIn, stringIn, masksIn, bankIn, hallIn}
 use Rattle.calls.specs.Layout.{inFlag, inWords, wordsOf, otherWordsOf, stringWordsOf, inString, inBank}
 use Rattle.calls.specs.Layout.{inMap, inStrings, inBanks, inHall, FitString, FitHall}
@@ -100,14 +101,20 @@ module _ (l : List ℕ) where
       (listed 0 (λ j. wordIn l a (0 + j)) manifoldCount (m .words) e
       (λ j b. word manifoldCount (m .words) a h j b (fit j) ∙ ap (λ (n : ℕ). wordIn l a n) (sym (zero-add j))))
 
-  bank-back : (a : ℕ) (x : Bank) → x .lesser < 2 ^ 16 → Stands l (inBank x) a → x ≡ bankIn l a
+  bank-back : (a : ℕ) (x : Bank) → x .lesser < 2 ^ 16 → x .difference < 2 ^ 16 → Stands l (inBank x) a → x ≡ bankIn l a
   unfolding inBank
-  bank-back a x fit h =
+  bank-back a x fit fits h =
       let flags = inFlag (x .unbalanced) ∷ inFlag (x .oxidizer) ∷ [] in
+      let q = inTwo (x .lesser) in
+      let d = inTwo (x .difference) in
       let first : getD l a 0 ≡ inFlag (x .unbalanced) = ap (λ (n : ℕ). getD l n 0) (sym (add-zero a)) ∙ h 0 (omega arith) in
-      let lesser : two l (a + 2) ≡ x .lesser =
-      two-stands l (inTwo (x .lesser)) (a + 2) (back l flags (inTwo (x .lesser)) a 2 refl h) ∙ two-inTwo (x .lesser) fit in
+      let behind = back l flags (q ++ d) a lesserAt refl h in
+      let lesser : two l (a + lesserAt) ≡ x .lesser =
+      two-stands l q (a + lesserAt) (front l q d (a + lesserAt) behind) ∙ two-inTwo (x .lesser) fit in
+      let difference : two l (a + differenceAt) ≡ x .difference =
+      two-stands l d (a + differenceAt) (back l (flags ++ q) d a differenceAt refl h) ∙ two-inTwo (x .difference) fits in
       bank-read l a (flag-back a (x .unbalanced) first) (flag-back (a + 1) (x .oxidizer) (h 1 (omega arith))) (sym lesser)
+      (sym difference)
 
 -- ---- the whole
 
@@ -145,5 +152,5 @@ read-written h fit =
     (front l strings banks stringsFrom behind-map) s b)))
     (listed noBank (bankNo l) moduleCount (h .banks) (fit .banks)
     (λ m b.
-    bank-back l (banksFrom + bankLength * m) (getD (h .banks) m noBank) (fit .lesser m)
+    bank-back l (banksFrom + bankLength * m) (getD (h .banks) m noBank) (fit .lesser m) (fit .difference m)
     (part l moduleCount bankLength bank-bytes (λ k. bank-length (getD (h .banks) k noBank)) banksFrom behind-strings m b)))

@@ -46,12 +46,18 @@ standingLength = wordLength * standingWords
 abbrev pub wordsLength : ℕ
 wordsLength = wordLength * stringWords
 
--- behind a string's words the flag of its path fault; a bank has two flags and a quantity
+-- behind a string's words the flag of its path fault; a bank has two flags, a quantity and a difference
 abbrev pub stringLength : ℕ
 stringLength = wordsLength + 1
 
+abbrev pub lesserAt : ℕ
+lesserAt = 2
+
+abbrev pub differenceAt : ℕ
+differenceAt = lesserAt + quantityLength
+
 abbrev pub bankLength : ℕ
-bankLength = 2 + quantityLength
+bankLength = differenceAt + quantityLength
 
 abbrev pub masksFrom : ℕ
 masksFrom = wordLength
@@ -98,7 +104,12 @@ abbrev pub masksIn : List ℕ → ℕ → Masks
 masksIn l i = record { words = perManifold l i 0 }
 
 abbrev pub bankIn : List ℕ → ℕ → Bank
-bankIn l i = record { unbalanced = flagIn l i; oxidizer = flagIn l (i + 1); lesser = two l (i + 2) }
+bankIn l i = record {
+  unbalanced = flagIn l i;
+  oxidizer = flagIn l (i + 1);
+  lesser = two l (i + lesserAt);
+  difference = two l (i + differenceAt);
+}
 
 unfoldable pub hallIn : List ℕ → Hall
 hallIn l = record {
@@ -134,7 +145,7 @@ unfoldable pub inString : StringState → List ℕ
 inString x = inWords stringWords (stringWordsOf x) ++ (inFlag (x .lost) ∷ [])
 
 unfoldable pub inBank : Bank → List ℕ
-inBank x = inFlag (x .unbalanced) ∷ inFlag (x .oxidizer) ∷ inTwo (x .lesser)
+inBank x = inFlag (x .unbalanced) ∷ inFlag (x .oxidizer) ∷ inTwo (x .lesser) ++ inTwo (x .difference)
 
 -- the masks of all strings, the strings and the banks
 abbrev pub inMap : List Masks → List ℕ
@@ -165,3 +176,4 @@ pub record FitHall (h : Hall) : Type 0 where
   pub string : (s : ℕ) → s < stringCount → FitString (getD (h .strings) s pastString)
   pub banks : length (h .banks) ≡ moduleCount
   pub lesser : (m : ℕ) → (getD (h .banks) m noBank) .lesser < 2 ^ 16
+  pub difference : (m : ℕ) → (getD (h .banks) m noBank) .difference < 2 ^ 16

@@ -1,10 +1,10 @@
-// A whole hall in 612 bytes: the fields in the order of the structs that declare them, each at its full width, the high byte first. A yes
+// A whole hall in 618 bytes: the fields in the order of the structs that declare them, each at its full width, the high byte first. A yes
 // or no is one byte, written as 1 or 0; any byte but 0 is read as yes.
 //
 // n (4); for each string its masks (a word for each manifold); for each string its standing and good copy (each the fail word, the valves
 // and a saved set for each manifold), off slots (newest, older, oldest), on slots (newest, older) and recheck word, inhibits, re-enables
-// and close word, and whether its path is lost; for each module whether it is out of balance, whether the oxidizer is the lesser, and the
-// lesser quantity (2).
+// and close word, and whether its path is lost; for each module whether it is out of balance, whether the oxidizer is the lesser, the
+// lesser quantity (2) and the difference (2).
 ghost use mathlib.Core.Path.{_≡_};
 ghost use Prim.Native.Nat.{_+_, _*_, _<_, _≤_};
 ghost use lib.ListN.{length};
@@ -59,7 +59,12 @@ const WORDS_LENGTH: usize = WORD_LENGTH * STRING_WORDS;
 
 const STRING_LENGTH: usize = WORDS_LENGTH + 1;
 
-const BANK_LENGTH: usize = 2 + QUANTITY_LENGTH;
+// Behind two flags the lesser quantity and the difference.
+const LESSER_AT: usize = 2;
+
+const DIFFERENCE_AT: usize = LESSER_AT + QUANTITY_LENGTH;
+
+const BANK_LENGTH: usize = DIFFERENCE_AT + QUANTITY_LENGTH;
 
 pub(crate) const MASKS_FROM: usize = WORD_LENGTH;
 
@@ -157,7 +162,8 @@ fn bank_in(b: &[u8], i: usize) -> Bank
     Bank {
         unbalanced: flag_in(b, i),
         oxidizer: flag_in(b, i + 1),
-        lesser: read_two(b, i + 2),
+        lesser: read_two(b, i + LESSER_AT),
+        difference: read_two(b, i + DIFFERENCE_AT),
     }
 }
 
@@ -268,7 +274,8 @@ fn put_bank(b: &mut [u8], x: Bank)
 {
     b[0] = flag(x.unbalanced);
     b[1] = flag(x.oxidizer);
-    put_two(&mut b[2..BANK_LENGTH], x.lesser);
+    put_two(&mut b[LESSER_AT..DIFFERENCE_AT], x.lesser);
+    put_two(&mut b[DIFFERENCE_AT..BANK_LENGTH], x.difference);
 }
 
 // The masks of all strings.

@@ -1,13 +1,13 @@
 // Plays scripts of single calls, so that nights and comparisons run at the level of calls and see all that a call gives back. It is a
 // tool for tests: a user's program hands on whole pieces. Numbers have the high byte first.
 //
-// Standard input has any number of scripts, one after the other. A script: its kind (1 byte); a hall (612, src/layout.rt has its places);
+// Standard input has any number of scripts, one after the other. A script: its kind (1 byte); a hall (618, src/layout.rt has its places);
 // the claimed count of held bytes (2) and the store (619); the number of calls (2); and for each call the piece's length (2, at most
 // 4,096), the piece, the outbox's length (1) and its contents. Where the kind is 0, the calls begin with what the start over the hall's
 // masks gives, and of the hall's other values n alone is handed in. Any other kind hands in the whole hall as it stands.
 //
 // Standard output has for each script the number of the start's answer to the hall's masks (1 byte), whatever the kind, and for each call
-// the answer's number (1), the bytes used (2), the whole outbox, the whole hall (612), the low 16 bits of the count (2) and the whole store
+// the answer's number (1), the bytes used (2), the whole outbox, the whole hall (618), the low 16 bits of the count (2) and the whole store
 // (619). At the end of its input, at a script that breaks off and at a piece that is too long the program stops silently.
 ghost use mathlib.Core.Path.{_≡_};
 ghost use mathlib.Core.Bool.{true};

@@ -12,6 +12,7 @@ pub mod Verdicts
 pub mod Leaks
 pub mod CutWords
 pub mod MappedLeaks
+pub mod Differences
 pub mod Balance
 pub mod SetsKept
 pub mod ProperKept

@@ -15,5 +15,6 @@ pub mod BadHeard
 pub mod DropHeard
 pub mod BothWaysHeard
 pub mod Carried
+pub mod BanksHeard
 pub mod Padded
 pub mod MapWords

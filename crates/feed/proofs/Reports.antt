@@ -9,6 +9,7 @@ pub mod ReportBytes
 pub mod ReportPlaces
 pub mod BalanceBits
 pub mod ReportsTell
+pub mod DifferencesTell
 pub mod TakenSo
 pub mod KindsTaken
 pub mod CloseSince

@@ -58,37 +58,37 @@ pub record BothWaysSaid (masks : List Masks) (r : List ℕ) : Type 0 where
 -- column "when", "answer 5 is tested before anything else in a call; then 1 or 2, then 3, then 4"; 02, order 4: "answer 7, tested after 4"
 abbrev pub Condition : Answer → Hall → ℕ → List ℕ → Type 0
 Condition Taken h room r =
-    (34 ≤ room)
+    (40 ≤ room)
     × Ahead (h .n) r
     × (h .n + apart (h .n) r ≤ 4294967295)
     × Matched (h .n + apart (h .n) r) r
     × (BothWaysSaid (h .masks) r → ⊥)
-Condition Stale h room r = (34 ≤ room) × (0 < length r) × (32768 ≤ apart (h .n) r)
-Condition Repeat h room r = (34 ≤ room) × (0 < length r) × (apart (h .n) r ≡ 0)
-Condition CountEnded h room r = (34 ≤ room) × Ahead (h .n) r × (4294967295 < h .n + apart (h .n) r)
-Condition WrongKind h room r = (34 ≤ room) × Ahead (h .n) r × (h .n + apart (h .n) r ≤ 4294967295) × Crossed (h .n + apart (h .n) r) r
-Condition OutboxShort h room r = room < 34
+Condition Stale h room r = (40 ≤ room) × (0 < length r) × (32768 ≤ apart (h .n) r)
+Condition Repeat h room r = (40 ≤ room) × (0 < length r) × (apart (h .n) r ≡ 0)
+Condition CountEnded h room r = (40 ≤ room) × Ahead (h .n) r × (4294967295 < h .n + apart (h .n) r)
+Condition WrongKind h room r = (40 ≤ room) × Ahead (h .n) r × (h .n + apart (h .n) r ≤ 4294967295) × Crossed (h .n + apart (h .n) r) r
+Condition OutboxShort h room r = room < 40
 Condition MapRefused h room r = ⊥
 Condition BothWays h room r =
-    (34 ≤ room)
+    (40 ≤ room)
     × Ahead (h .n) r
     × (h .n + apart (h .n) r ≤ 4294967295)
     × Matched (h .n + apart (h .n) r) r
     × BothWaysSaid (h .masks) r
-Condition NothingSettled h room r = (34 ≤ room) × (r ≡ [])
+Condition NothingSettled h room r = (40 ≤ room) × (r ≡ [])
 
 -- ---- what is left
 
 -- "as before" and "report"
 abbrev pub AsBefore : Answer → Monitor → List ℕ → Result → Type 0
-AsBefore a m out c = (c .outcome .monitor .hall ≡ m .hall) × (c .outbox ≡ reportOf a (m .hall) ++ drop 34 out)
+AsBefore a m out c = (c .outcome .monitor .hall ≡ m .hall) × (c .outbox ≡ reportOf a (m .hall) ++ drop 40 out)
 
--- columns "monitor" and "outbox"; "bytes after the 34th keep their values"
+-- columns "monitor" and "outbox"; 02, order 10: bytes after the 40th keep their values
 abbrev pub Leaves : Answer → Monitor → List ℕ → List ℕ → Result → Type 0
 Leaves Taken m piece out c =
     (c .outcome .monitor .hall ≡ (stepped (valuesIn (holds m ++ piece)) (m .hall)) .hall)
     × (c .outcome .monitor .hall .n ≡ m .hall .n + apart (m .hall .n) (recordIn (holds m ++ piece)))
-    × (c .outbox ≡ reportOf Taken (c .outcome .monitor .hall) ++ drop 34 out)
+    × (c .outbox ≡ reportOf Taken (c .outcome .monitor .hall) ++ drop 40 out)
 Leaves Stale m piece out c = AsBefore Stale m out c
 Leaves Repeat m piece out c = AsBefore Repeat m out c
 Leaves CountEnded m piece out c = AsBefore CountEnded m out c

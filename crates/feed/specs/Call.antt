@@ -36,7 +36,7 @@ pub record Result : Type 0 where
   pub outcome : Outcome
   pub outbox : List ℕ
 
--- a record stands at the front: it is answered and removed, and its report written; "bytes after the 34th keep their values"
+-- a record stands at the front: it is answered and removed, and its report written; 02, order 10: bytes after the 40th keep their values
 abbrev pub settledOne : Hall → Stop → ℕ → List ℕ → Result
 settledOne h s used out =
     let n = lengthShown (look (s .left)) in
@@ -60,7 +60,8 @@ called m piece out =
     let s = reads (holds m) piece in
     calledBy (settles (look (s .left))) (m .hall) s (length piece - length (s .rest)) out
 
--- 5: "outbox under 34 bytes": "as before, reader too, 0 bytes used", "untouched"; it "is tested before anything else in a call"
+-- 02, order 10: "answer 5 means under 40": "as before, reader too, 0 bytes used", "untouched"; it "is tested before anything else in a
+-- call"
 unfoldable pub call : Monitor → List ℕ → List ℕ → Result
 call m piece out =
     let c = called m piece out in

@@ -2,11 +2,11 @@
 -- it. The numbers are written as the documents write or add them up. Lists are the newest first. Assumes nothing.
 use mathlib.Core.Path.{_≡_}
 use mathlib.Core.Bool.{true, false, cond}
-use mathlib.Core.List.{List, [], _∷_}
+use mathlib.Core.List.{List, [], _∷_, _++_}
 use mathlib.Core.Logic.{_⊎_}
 use Prim.Native.Nat.{ℕ, _+_, _*_}
 use lib.Dec.{eqb}
-use lib.IntN.{pos}
+use lib.IntN.{ℤ, pos, _-ℤ_}
 use lib.ListN.{getD}
 use lib.Signed.{_≤ℤ_}
 use Rattle.bits.specs.Bit.{bit}
@@ -93,3 +93,24 @@ bankHeard m [] = noBank
 bankHeard m (t ∷ ts) =
     cond (eqb (getD (t .bytes) 1 0) 0x4A)
     (weighed (record { fuel = two (t .bytes) (605 + 4 * m); oxidizer = two (t .bytes) (607 + 4 * m) })) (bankHeard m ts)
+
+-- 02, order 10: "fuel less oxidizer as a signed number", of module m by the bytes of the last taken major record; "At fresh they are 0."
+abbrev pub differenceSaid : ℕ → List ℕ → ℤ
+differenceSaid m r = pos (two r (605 + 4 * m)) -ℤ pos (two r (607 + 4 * m))
+
+abbrev pub differenceHeard : ℕ → List Heard → ℤ
+differenceHeard m [] = pos 0
+differenceHeard m (t ∷ ts) = cond (eqb (getD (t .bytes) 1 0) 0x4A) (differenceSaid m (t .bytes)) (differenceHeard m ts)
+
+-- no record of these is a major one
+abbrev pub NoMajor : List Heard → Type 0
+NoMajor ts = Each (λ t. getD (t .bytes) 1 0 ≡ 0x4A → ⊥) ts
+
+-- r is the last major one of them
+pub record LastMajor (r : List ℕ) (ts : List Heard) : Type 0 where
+  pub later : List Heard
+  pub n : ℕ
+  pub earlier : List Heard
+  pub parts : ts ≡ later ++ (record { n = n; bytes = r } ∷ earlier)
+  pub mark : getD r 1 0 ≡ 0x4A
+  pub newest : NoMajor later

@@ -1,5 +1,5 @@
 -- All that a call gives back which settles one record and holds nothing behind it, and which holds the start of one. The numbers are
--- written as document 01 writes them. Assumes nothing.
+-- written as the documents write them. Assumes nothing.
 use mathlib.Core.List.{List, [], _++_}
 use Prim.Native.Nat.{ℕ}
 use lib.ListN.{length, drop}
@@ -9,12 +9,12 @@ use Rattle.feed.specs.Report.{reportOf}
 use Rattle.feed.specs.Call.{holds, holding, Result}
 use Rattle.feed.specs.declared.call.Monitor.{Monitor}
 
--- the record led to x: "the record is settled and removed", "exactly those up to the one that settled the record", "Bytes after the 34th
--- keep their values."
+-- the record led to x: "the record is settled and removed", "exactly those up to the one that settled the record", 02, order 10: bytes
+-- after the 40th keep their values
 abbrev pub settledTo : Stepped → ℕ → List ℕ → Result
 settledTo x used out = record {
   outcome = record { answer = x .answer; used = used; monitor = holding (x .hall) [] };
-  outbox = reportOf (x .answer) (x .hall) ++ drop 34 out;
+  outbox = reportOf (x .answer) (x .hall) ++ drop 40 out;
 }
 
 -- "it waits for the full length"; "A call that settles nothing says so, which is no refusal, and the outbox keeps its bytes."

@@ -1,4 +1,4 @@
--- 01, "Which answer a record gets": the report, 34 bytes. Assumes nothing.
+-- 01, "Which answer a record gets": the report; 02, order 10: "A report is 40 bytes". Assumes nothing.
 use mathlib.Core.Bool.{Bool, cond}
 use mathlib.Core.List.{List, [], _∷_, _++_}
 use Prim.Native.Nat.{ℕ, zero, suc, _+_, _%_}
@@ -44,9 +44,16 @@ lesserShown banks m = inTwo ((getD banks m noBank) .lesser)
 unfoldable pub lesserBytes : List Bank → List ℕ
 lesserBytes banks = parts moduleCount (lesserShown banks)
 
--- "balance byte; three lesser quantities (2 each)"
+-- 02, order 10: "the report carries three of them, 2 bytes each in two's complement"
+abbrev pub differenceShown : List Bank → ℕ → List ℕ
+differenceShown banks m = inTwo ((getD banks m noBank) .difference)
+
+unfoldable pub differencesBytes : List Bank → List ℕ
+differencesBytes banks = parts moduleCount (differenceShown banks)
+
+-- "balance byte; three lesser quantities (2 each)"; 02, order 10: the differences "after the lesser quantities"
 unfoldable pub banksBytes : List Bank → List ℕ
-banksBytes banks = balanceOf moduleCount banks % 256 ∷ lesserBytes banks
+banksBytes banks = balanceOf moduleCount banks % 256 ∷ lesserBytes banks ++ differencesBytes banks
 
 -- the whole, by what it shows: n, each string's fail word and close bits, and the banks
 abbrev pub reportBy : Answer → ℕ → (ℕ → ℕ) → (ℕ → ℕ) → List Bank → List ℕ
@@ -73,7 +80,7 @@ reportShown a x = reportBy a (x .n) (wordAt (x .fails)) (wordAt (x .closes)) (x 
 abbrev pub reportTaken : Stepped → List (List ℕ)
 reportTaken x = cond (isTaken (x .answer)) (reportOf (x .answer) (x .hall) ∷ []) []
 
--- the report put into an outbox: "Bytes after the 34th keep their values", and so do all where it does not fit
+-- the report put into an outbox: 02, order 10: bytes after the 40th keep their values, and so do all where it does not fit
 abbrev pub fitsIn : List ℕ → Bool
 fitsIn out = leb reportLength (length out)
 

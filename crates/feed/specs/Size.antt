@@ -150,15 +150,22 @@ lesserFrom = balanceAt + 1
 abbrev pub lesserLength : ℕ
 lesserLength = quantityLength
 
+-- 02, order 10: "the report carries three of them, 2 bytes each .., after the lesser quantities"
+abbrev pub differencesFrom : ℕ
+differencesFrom = lesserFrom + moduleCount * lesserLength
+
+abbrev pub differenceLength : ℕ
+differenceLength = quantityLength
+
 -- "bit 4+m if its oxidizer is the lesser"
 abbrev pub oxidizerFrom : ℕ
 oxidizerFrom = 4
 
--- "Report, 34 bytes"
+-- 02, order 10: "A report is 40 bytes"
 abbrev pub reportLength : ℕ
-reportLength = lesserFrom + moduleCount * lesserLength
+reportLength = differencesFrom + moduleCount * differenceLength
 
--- answer 5: "outbox under 34 bytes"
+-- 02, order 10: "answer 5 means under 40"
 abbrev pub outboxNeeded : ℕ
 outboxNeeded = reportLength
 

@@ -7,17 +7,19 @@ use lib.ListN.{length, getD}
 use Rattle.bits.specs.Bit.{bit, any}
 use Rattle.cycle.specs.Answers.{numberOf}
 use Rattle.cycle.specs.Jets.{run, askedSinceDrop}
+use Rattle.cycle.specs.Leak.{signed}
 use Rattle.cycle.specs.Map.{masksOf, inMask}
 use Rattle.cycle.specs.declared.answer.Answer.{Answer}
 use Rattle.cycle.specs.declared.map.Masks.{Masks}
 use Rattle.feed.specs.Bytes.{two, four}
-use Rattle.feed.specs.Heard.{Heard, reachedBy, jetHistory, bankHeard}
+use Rattle.feed.specs.Heard.{Heard, reachedBy, jetHistory, bankHeard, differenceHeard}
 
--- "Report, 34 bytes: 52 52; answer; n after it (4); for each string the fail word (4) and close byte (1); balance byte; three lesser
--- quantities (2 each)." Each bit of it by the run of `Jets` from fresh over the jet's own values in the records taken. Four strings, each
--- of 32 jets and eight manifolds, and three modules: the counts are written as the documents write them, so that no other is proved.
+-- "52 52; answer; n after it (4); for each string the fail word (4) and close byte (1); balance byte; three lesser quantities (2 each)";
+-- 02, order 10: "the report carries three of them, 2 bytes each in two's complement, after the lesser quantities. A report is 40 bytes".
+-- Each bit of it by the run of `Jets` from fresh over the jet's own values in the records taken. Four strings, each of 32 jets and eight
+-- manifolds, and three modules: the counts are written as the documents write them, so that no other is proved.
 pub record Tells (masks : List Masks) (a : Answer) (ts : List Heard) (report : List ℕ) : Type 0 where
-  pub long : length report ≡ 34
+  pub long : length report ≡ 40
   pub byte : (k : ℕ) → getD report k 0 < 256
   pub mark : (getD report 0 0 ≡ 0x52) × (getD report 1 0 ≡ 0x52)
   pub answer : getD report 2 0 ≡ numberOf a
@@ -37,3 +39,5 @@ pub record Tells (masks : List Masks) (a : Answer) (ts : List Heard) (report : L
   pub oxidizer : (m : ℕ) → m < 3 → bit (4 + m) (getD report 27 0) ≡ (bankHeard m ts) .oxidizer
   pub noModule : (bit 3 (getD report 27 0) ≡ false) × (bit 7 (getD report 27 0) ≡ false)
   pub lesser : (m : ℕ) → m < 3 → two report (28 + 2 * m) ≡ (bankHeard m ts) .lesser
+  -- 02, order 10: "fuel less oxidizer as a signed number" of the last taken major record; "At fresh they are 0."
+  pub difference : (m : ℕ) → m < 3 → signed (two report (34 + 2 * m)) ≡ differenceHeard m ts

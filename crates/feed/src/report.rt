@@ -4,8 +4,8 @@ ghost use mathlib.Core.List.{_++_};
 ghost use Prim.Native.Nat.{_≤_};
 ghost use lib.ListN.{length, take, drop};
 ghost use Rattle.cycle.specs.Size.{moduleCount};
-ghost use Rattle.feed.specs.Size.{stringsFrom, stringPart, balanceAt, lesserFrom, reportLength};
-ghost use Rattle.feed.specs.Report.{headOf, stringBytes, stringsBytes, balanceOf, lesserBytes, banksBytes};
+ghost use Rattle.feed.specs.Size.{stringsFrom, stringPart, balanceAt, lesserFrom, differencesFrom, reportLength};
+ghost use Rattle.feed.specs.Report.{headOf, stringBytes, stringsBytes, balanceOf, lesserBytes, differencesBytes, banksBytes};
 ghost use Rattle.feed.specs.Inside.Showing.{shownOf};
 ghost use Rattle.feed.specs.Report.{wordAt, reportOf, reportShown, fitsIn, intoOutbox, reportOver};
 use crate::bytes::put_four;
@@ -13,6 +13,8 @@ use crate::bytes::put_two;
 use crate::size::ANSWER_AT;
 use crate::size::BALANCE_AT;
 use crate::size::COUNT_AT;
+use crate::size::DIFFERENCE_LENGTH;
+use crate::size::DIFFERENCES_FROM;
 use crate::size::LESSER_FROM;
 use crate::size::LESSER_LENGTH;
 use crate::size::MARK;
@@ -87,7 +89,7 @@ fn put_strings(out: &mut [u8], fails: [u32; STRINGS], closes: [u32; STRINGS])
 // The lesser quantities of all modules.
 fn put_lesser(out: &mut [u8], banks: [Bank; MODULES])
     requires { ⌜ reportLength ≤ length (now out) ⌝ }
-    ensures { λ r. ⌜ now (out .exit) ≡ take lesserFrom (now (out .entry)) ++ (lesserBytes banks ++ drop reportLength (now (out .entry))) ⌝ }
+    ensures { λ r. ⌜ now (out .exit) ≡ take lesserFrom (now (out .entry)) ++ (lesserBytes banks ++ drop differencesFrom (now (out .entry))) ⌝ }
 {
     let mut m: usize = 0;
     while m < MODULES {
@@ -98,13 +100,28 @@ fn put_lesser(out: &mut [u8], banks: [Bank; MODULES])
     }
 }
 
-// The balance byte and the lesser quantities.
+// The differences of all modules.
+fn put_differences(out: &mut [u8], banks: [Bank; MODULES])
+    requires { ⌜ reportLength ≤ length (now out) ⌝ }
+    ensures { λ r. ⌜ now (out .exit) ≡ take differencesFrom (now (out .entry)) ++ (differencesBytes banks ++ drop reportLength (now (out .entry))) ⌝ }
+{
+    let mut m: usize = 0;
+    while m < MODULES {
+        let a = DIFFERENCES_FROM + DIFFERENCE_LENGTH * m;
+        let b = banks[m];
+        put_two(&mut out[a..a + DIFFERENCE_LENGTH], b.difference);
+        m += 1;
+    }
+}
+
+// The balance byte, the lesser quantities and the differences.
 fn put_banks(out: &mut [u8], banks: [Bank; MODULES])
     requires { ⌜ reportLength ≤ length (now out) ⌝ }
     ensures { λ r. ⌜ now (out .exit) ≡ take balanceAt (now (out .entry)) ++ (banksBytes banks ++ drop reportLength (now (out .entry))) ⌝ }
 {
     out[BALANCE_AT] = (balance_of(banks) % 256) as u8;
     put_lesser(out, banks);
+    put_differences(out, banks);
 }
 
 // The report of answer and shown values; the bytes after it keep their values.

@@ -75,8 +75,8 @@ pub const RESERVED_FROM: u8 = 16;
 // A quantity is at most this many tenths of a percent.
 pub const MOST_QUANTITY: u16 = 1000;
 
-// Where the parts of a report stand: after the mark the answer, the cycle number, each string's fail word and close byte, the balance byte
-// and the lesser quantities.
+// Where the parts of a report stand: after the mark the answer, the cycle number, each string's fail word and close byte, the balance byte,
+// the lesser quantities and the differences.
 pub const ANSWER_AT: usize = MARK_LENGTH;
 
 pub const COUNT_AT: usize = ANSWER_AT + 1;
@@ -93,11 +93,15 @@ pub const LESSER_FROM: usize = BALANCE_AT + 1;
 
 pub const LESSER_LENGTH: usize = QUANTITY_LENGTH;
 
+pub const DIFFERENCES_FROM: usize = LESSER_FROM + MODULES * LESSER_LENGTH;
+
+pub const DIFFERENCE_LENGTH: usize = QUANTITY_LENGTH;
+
 // In the balance byte bit m says that module m is out of balance; from this bit on, that its oxidizer is the lesser.
 pub const OXIDIZER_FROM: usize = 4;
 
 // The bytes of a report, and of the outbox that a call needs.
-pub const REPORT: usize = LESSER_FROM + MODULES * LESSER_LENGTH;
+pub const REPORT: usize = DIFFERENCES_FROM + MODULES * DIFFERENCE_LENGTH;
 
 pub const OUTBOX_NEEDED: usize = REPORT;
 

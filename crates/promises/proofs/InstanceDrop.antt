@@ -13,7 +13,7 @@ use Rattle.cycle.specs.Map.{mapped}
 use Rattle.cycle.specs.Numbers.{isMajor, missedMajor, following, judgedAt, judged}
 use Rattle.cycle.specs.Words.{recovered, gapped, offFailure, manifold, passed, manifolds, minorSteps, minorCycle}
 use Rattle.cycle.specs.Words.{requested, behindClosed, leakWord, badJets, closeBits, rechecked, onFailure, kept, majorSteps, majorCycle}
-use Rattle.cycle.specs.Banks.{weighed, weighedAll}
+use Rattle.cycle.specs.Banks.{fuelLessOxidizer, weighed, weighedAll}
 use Rattle.cycle.specs.Hall.{freshHall, minorStrings, majorStrings, taken, bothWays, unlessBothWays, verdictOn, stepped}
 use Rattle.cycle.specs.Inside.Runs.{hallAfter}
 use Rattle.cycle.specs.declared.answer.Answer.the-variants.{Taken}
@@ -21,7 +21,7 @@ use Rattle.feed.specs.Format.{rowOf, markOf, total, sumOf, reservedZero, quanti
 use Rattle.feed.specs.Reader.{settle, reads}
 use Rattle.feed.specs.Values.{samplesOf, minorOf, wordsAt, temperaturesOf, requestsOf, quantitiesOf, majorOf, valuesOf}
 use Rattle.feed.specs.Bytes.{parts}
-use Rattle.feed.specs.Report.{headOf, stringBytes, stringsBytes, balanceOf, lesserBytes, banksBytes, reportOf}
+use Rattle.feed.specs.Report.{headOf, stringBytes, stringsBytes, balanceOf, lesserBytes, differencesBytes, banksBytes, reportOf}
 use Rattle.feed.specs.Heard.{DropCarriedOut}
 use Rattle.feed.specs.Settled.{recordIn}
 use Rattle.feed.specs.Step.{isWhole}
@@ -55,9 +55,9 @@ carried-out = record { mark = refl; path = refl; asked = refl }
 steps : Stepping repairBytes hallAt75 Taken hallAt100 (reportOfString 0 100 0x00000002 0x00)
 unfolding bit without meets withBit pack any each table mapped isMajor missedMajor following judgedAt judged recovered gapped offFailure
     manifold passed manifolds requested behindClosed leakWord badJets closeBits rechecked onFailure kept minorSteps majorSteps minorCycle
-    majorCycle weighed weighedAll freshHall minorStrings majorStrings taken bothWays unlessBothWays verdictOn stepped hallAfter samplesOf
-    minorOf wordsAt temperaturesOf requestsOf quantitiesOf majorOf valuesOf parts headOf stringBytes stringsBytes balanceOf lesserBytes
-    banksBytes reportOf warmWords repairBytes hallAt75 hallAt100
+    majorCycle fuelLessOxidizer weighed weighedAll freshHall minorStrings majorStrings taken bothWays unlessBothWays verdictOn stepped
+    hallAfter samplesOf minorOf wordsAt temperaturesOf requestsOf quantitiesOf majorOf valuesOf parts headOf stringBytes stringsBytes
+    balanceOf lesserBytes differencesBytes banksBytes reportOf warmWords repairBytes hallAt75 hallAt100
 steps = record { step = refl; told = refl }
 
 -- ---- the call that takes it

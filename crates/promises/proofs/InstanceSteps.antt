@@ -10,7 +10,7 @@ use Rattle.cycle.specs.Map.{mapped, overlap, refused}
 use Rattle.cycle.specs.Numbers.{isMajor, missedMajor, following, judgedAt, judged}
 use Rattle.cycle.specs.Words.{recovered, gapped, offFailure, manifold, passed, manifolds, minorSteps, minorCycle}
 use Rattle.cycle.specs.Words.{requested, behindClosed, leakWord, badJets, closeBits, rechecked, onFailure, kept, majorSteps, majorCycle}
-use Rattle.cycle.specs.Banks.{weighed, weighedAll}
+use Rattle.cycle.specs.Banks.{fuelLessOxidizer, weighed, weighedAll}
 use Rattle.cycle.specs.Hall.{freshHall, started, minorStrings, majorStrings, taken, bothWays, unlessBothWays, verdictOn, stepped}
 use Rattle.cycle.specs.Inside.Runs.{hallAfter}
 use Rattle.cycle.specs.declared.answer.Answer.{Answer}
@@ -18,7 +18,7 @@ use Rattle.cycle.specs.declared.answer.Answer.the-variants.{Taken, Stale, Repea
 use Rattle.cycle.specs.declared.hall.Hall.{Hall}
 use Rattle.feed.specs.Values.{samplesOf, minorOf, wordsAt, temperaturesOf, requestsOf, quantitiesOf, majorOf, valuesOf}
 use Rattle.feed.specs.Bytes.{parts}
-use Rattle.feed.specs.Report.{headOf, stringBytes, stringsBytes, balanceOf, lesserBytes, banksBytes, reportOf}
+use Rattle.feed.specs.Report.{headOf, stringBytes, stringsBytes, balanceOf, lesserBytes, differencesBytes, banksBytes, reportOf}
 use Rattle.feed.specs.Call.{holding, startedOver}
 use Rattle.promises.specs.NightRecords.{nightMap}
 use Rattle.promises.specs.NightHolds.{reportOfString}
@@ -37,9 +37,9 @@ pub steps-of : Stepping (majorBytes 25) (freshHall nightMap) Taken hallAt25 (rep
     × Stepping (minorBytes 10) hallAt50 Stale hallAt50 (reportOfString 1 50 0x00000002 0x00)
 unfolding bit without meets withBit pack any each table mapped isMajor missedMajor following judgedAt judged recovered gapped offFailure
     manifold passed manifolds requested behindClosed leakWord badJets closeBits rechecked onFailure kept minorSteps majorSteps minorCycle
-    majorCycle weighed weighedAll freshHall minorStrings majorStrings taken bothWays unlessBothWays verdictOn stepped hallAfter samplesOf
-    minorOf wordsAt temperaturesOf requestsOf quantitiesOf majorOf valuesOf parts headOf stringBytes stringsBytes balanceOf lesserBytes
-    banksBytes reportOf warmWords majorBytes minorBytes hallAt25 hallAt50 hallAt75
+    majorCycle fuelLessOxidizer weighed weighedAll freshHall minorStrings majorStrings taken bothWays unlessBothWays verdictOn stepped
+    hallAfter samplesOf minorOf wordsAt temperaturesOf requestsOf quantitiesOf majorOf valuesOf parts headOf stringBytes stringsBytes
+    balanceOf lesserBytes differencesBytes banksBytes reportOf warmWords majorBytes minorBytes hallAt25 hallAt50 hallAt75
 steps-of = (
   record { step = refl; told = refl },
   record { step = refl; told = refl },

@@ -141,14 +141,14 @@ major-waits-for-nothing masks before r cs done major =
 
 -- With nothing held, or only the first bytes of a record that is next in the feed, the record is settled by the very call that brings its
 -- last byte, and that call uses no byte behind it;
-pub last-byte-settles : (m : Monitor) (x rest out r : List ℕ) → WholeRecord r → holds m ++ x ≡ r → 34 ≤ length out
+pub last-byte-settles : (m : Monitor) (x rest out r : List ℕ) → WholeRecord r → holds m ++ x ≡ r → 40 ≤ length out
     → (writesReport ((call m (x ++ rest) out) .outcome .answer) ≡ true)
     × (recordIn (holds m ++ (x ++ rest)) ≡ r)
     × ((call m (x ++ rest) out) .outcome .used ≡ length x)
 last-byte-settles = next.last-byte-settles
 
 -- a call that brings some of its bytes and not the last one holds them
-pub begun-waits : (m : Monitor) (piece x out r : List ℕ) → WholeRecord r → holds m ++ (piece ++ x) ≡ r → 0 < length x → 34 ≤ length out
+pub begun-waits : (m : Monitor) (piece x out r : List ℕ) → WholeRecord r → holds m ++ (piece ++ x) ≡ r → 0 < length x → 40 ≤ length out
     → ((call m piece out) .outcome .answer ≡ NothingSettled)
     × ((call m piece out) .outcome .used ≡ length piece)
     × (holds ((call m piece out) .outcome .monitor) ≡ holds m ++ piece)

@@ -26,4 +26,5 @@ pub mod Promises
 pub mod Writer
 pub mod Engines
 pub mod Tenants
+pub mod Banks
 pub mod InstanceTenants

@@ -8,7 +8,7 @@ use Rattle.cycle.specs.Map.{mapped, overlap, refused}
 use Rattle.cycle.specs.Numbers.{isMajor, missedMajor, following, judgedAt, judged}
 use Rattle.cycle.specs.Words.{pathLost, recovered, gapped, offFailure, manifold, passed, manifolds, minorSteps, minorCycle}
 use Rattle.cycle.specs.Words.{requested, behindClosed, leakWord, badJets, closeBits, rechecked, onFailure, kept, majorSteps, majorCycle}
-use Rattle.cycle.specs.Banks.{weighed, weighedAll}
+use Rattle.cycle.specs.Banks.{fuelLessOxidizer, weighed, weighedAll}
 use Rattle.cycle.specs.Hall.{freshHall, started, minorStrings, majorStrings, taken, bothWays, unlessBothWays, verdictOn, stepped}
 use Rattle.feed.specs.Format.{rowOf, markOf, total, sumOf, reservedZero, quantitiesRight, goodMinor, goodMajor, markedLook}
 use Rattle.feed.specs.Format.{look}
@@ -16,7 +16,7 @@ use Rattle.feed.specs.Reader.{settle, reads}
 use Rattle.feed.specs.Values.{samplesOf, minorOf, wordsAt, temperaturesOf, requestsOf, quantitiesOf, majorOf, valuesOf}
 use Rattle.feed.specs.Step.{isWhole, stepOf}
 use Rattle.feed.specs.Bytes.{parts}
-use Rattle.feed.specs.Report.{headOf, stringBytes, stringsBytes, balanceOf, lesserBytes, banksBytes, reportOf}
+use Rattle.feed.specs.Report.{headOf, stringBytes, stringsBytes, balanceOf, lesserBytes, differencesBytes, banksBytes, reportOf}
 use Rattle.feed.specs.Call.{startedOver, called, call}
 use Rattle.promises.specs.Instance.{warmWords}
 use Rattle.promises.specs.NightHolds.{Night, EachHolds, outcomes, beforeRefusals, afterRefusals, calls, cycles}
@@ -39,10 +39,11 @@ use Rattle.promises.proofs.NightRefusals.{holds-by}
 unfoldable pub computed : Unit {0}
 unfolding bit without meets withBit pack any every each table mapped overlap refused isMajor missedMajor following judgedAt judged pathLost
     recovered gapped offFailure manifold passed manifolds requested behindClosed leakWord badJets closeBits rechecked onFailure kept
-    minorSteps majorSteps minorCycle majorCycle weighed weighedAll freshHall started minorStrings majorStrings taken bothWays unlessBothWays
-    verdictOn stepped rowOf markOf total sumOf reservedZero quantitiesRight goodMinor goodMajor markedLook look settle reads samplesOf
-    minorOf wordsAt temperaturesOf requestsOf quantitiesOf majorOf valuesOf isWhole stepOf parts headOf stringBytes stringsBytes balanceOf
-    lesserBytes banksBytes reportOf startedOver called call outcomes beforeRefusals afterRefusals calls cycles warmWords
+    minorSteps majorSteps minorCycle majorCycle fuelLessOxidizer weighed weighedAll freshHall started minorStrings majorStrings taken
+    bothWays unlessBothWays verdictOn stepped rowOf markOf total sumOf reservedZero quantitiesRight goodMinor goodMajor markedLook look
+    settle reads samplesOf minorOf wordsAt temperaturesOf requestsOf quantitiesOf majorOf valuesOf isWhole stepOf parts headOf stringBytes
+    stringsBytes balanceOf lesserBytes differencesBytes banksBytes reportOf startedOver called call outcomes beforeRefusals afterRefusals
+    calls cycles warmWords
 computed = tt
 
 -- part by part, since what one law may compute is bounded

@@ -105,7 +105,7 @@ pub holds-exactly : (m : Monitor) → (618 < m .count → holds m ≡ []) × (m 
 holds-exactly = starting.holds-exactly
 
 -- on every answer but 5, what the reader drops, settles and holds, and where it stops: whole records only, and no whole one is dropped
-pub reads : (m : Monitor) (piece out : List ℕ) → 34 ≤ length out → Read m piece (call m piece out)
+pub reads : (m : Monitor) (piece out : List ℕ) → 40 ≤ length out → Read m piece (call m piece out)
 reads = call-reads
 
 -- These three leave no choice: any function of monitor, piece and outbox that meets them is `call`.
@@ -113,7 +113,7 @@ pub only-call : (f : Monitor → List ℕ → List ℕ → Result)
     → ((m : Monitor) (piece out : List ℕ) (a : Answer)
     → ((f m piece out) .outcome .answer ≡ a) ↔ Condition a (m .hall) (length out) (recordIn (holds m ++ piece)))
     → ((m : Monitor) (piece out : List ℕ) → Leaves ((f m piece out) .outcome .answer) m piece out (f m piece out))
-    → ((m : Monitor) (piece out : List ℕ) → 34 ≤ length out → Read m piece (f m piece out))
+    → ((m : Monitor) (piece out : List ℕ) → 40 ≤ length out → Read m piece (f m piece out))
     → (m : Monitor) (piece out : List ℕ) → f m piece out ≡ call m piece out
 only-call = only.only-call
 

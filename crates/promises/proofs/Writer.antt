@@ -62,7 +62,7 @@ writer-numbers = refusing.writer-numbers
 -- "An empty reader given what was written gives the values back": a record that was written, and any monitor that holds nothing, whatever
 -- its hall
 module _ (r : Record) (fits : FitRecord r) (box : List ℕ) (written : (write r box) .answer ≡ Written) (m : Monitor) (empty : holds m ≡ [])
-    (out : List ℕ) (room : 34 ≤ length out) where
+    (out : List ℕ) (room : 40 ≤ length out) where
   -- in one piece, with anything behind: exactly that record is settled, its values are those given, exactly its bytes are used, nothing is
   -- held, and the hall steps by exactly those values
   pub read-back : (behind : List ℕ)
@@ -78,7 +78,7 @@ module _ (r : Record) (fits : FitRecord r) (box : List ℕ) (written : (write r 
   read-back-in-pieces pieces = sending.in-pieces r box written fits out room m pieces empty
 
 -- piece by piece, whatever the monitor holds of the record: the rest settles it, with anything behind, and less than that waits
-module _ (r : Record) (box : List ℕ) (written : (write r box) .answer ≡ Written) (m : Monitor) (out : List ℕ) (room : 34 ≤ length out) where
+module _ (r : Record) (box : List ℕ) (written : (write r box) .answer ≡ Written) (m : Monitor) (out : List ℕ) (room : 40 ≤ length out) where
   pub last-settles : FitRecord r → (last behind : List ℕ) → holds m ++ last ≡ bytesOf r
       → call m (last ++ behind) out ≡ settledTo (stepped r (m .hall)) (length last) out
   last-settles fits last behind here = sending.last-settles r box written fits m last behind out here room

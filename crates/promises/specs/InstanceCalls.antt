@@ -24,7 +24,7 @@ room = replicate outboxNeeded 0xFF
 abbrev pub handing : List ℕ → Made
 handing piece = record { piece = piece; outbox = room }
 
--- a call: the piece that it is handed, with an outbox of 34 bytes FF, and what it gives back
+-- a call: the piece that it is handed, with an outbox of 40 bytes FF, and what it gives back
 pub record Exchanged : Type 0 where
   pub piece : List ℕ
   pub result : Result

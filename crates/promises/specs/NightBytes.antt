@@ -15,7 +15,7 @@ use Rattle.feed.specs.Bytes.{inTwo, inFour}
 use Rattle.feed.specs.Format.{sumOf}
 use Rattle.promises.specs.Instance.{warmWords}
 use Rattle.promises.specs.NightRecords.{sampleWith, quietSample}
-use Rattle.promises.specs.NightHolds.{Handed}
+use Rattle.promises.specs.NightHolds.{Handed, noBanks}
 
 -- ---- maps beside the nights' own
 
@@ -146,7 +146,7 @@ abbrev pub atBoth : ℕ → ℕ → Said → Said → Shown → Shown → Handed
 atBoth n path first second one other = record {
   bytes = recordBytes n path first second;
   answer = Taken;
-  report = 0x52 ∷ 0x52 ∷ 0x00 ∷ inFour n ++ shownBytes one ++ shownBytes other ++ replicate 10 0x00 ++ replicate 7 0x00;
+  report = 0x52 ∷ 0x52 ∷ 0x00 ∷ inFour n ++ shownBytes one ++ shownBytes other ++ replicate 10 0x00 ++ noBanks;
 }
 
 -- where string 1 has no jets: the fail word and close byte of string 0

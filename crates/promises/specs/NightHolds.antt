@@ -1,4 +1,4 @@
--- What a night is and when it holds: it starts fresh over its map, and every record gets the report that the night states, all 34 bytes
+-- What a night is and when it holds: it starts fresh over its map, and every record gets the report that the night states, all 40 bytes
 -- of it. Assumes nothing.
 use mathlib.Core.Path.{_≡_}
 use mathlib.Core.Bool.{Bool, true, false, cond}
@@ -95,7 +95,7 @@ seenOfCall r = record {
   outbox = r .outbox;
 }
 
--- calls one after the other, each on the monitor that the one before it left, with an outbox of 34 bytes FF
+-- calls one after the other, each on the monitor that the one before it left, with an outbox of 40 bytes FF
 unfoldable pub calls : Monitor → List (List ℕ) → List OneCall
 calls m [] = []
 calls m (piece ∷ l) =
@@ -128,14 +128,17 @@ EachHolds (night ∷ others) = Holds night × EachHolds others
 
 -- ---- how a night states its reports
 
--- "52 52; answer; n after it (4); for each string the fail word (4) and close byte (1); balance byte; three lesser quantities (2 each)":
--- strings 1 to 3 have no jets and show 0; `banks` are the last seven bytes
+-- "52 52; answer; n after it (4); for each string the fail word (4) and close byte (1); balance byte; three lesser quantities (2 each)";
+-- 02, order 10: three differences, "2 bytes each": strings 1 to 3 have no jets and show 0; `banks` are the last thirteen bytes
 abbrev pub reportWith : ℕ → ℕ → ℕ → ℕ → List ℕ → List ℕ
 reportWith answer n fail close banks = 0x52 ∷ 0x52 ∷ answer ∷ inFour n ++ inFour fail ++ (close ∷ replicate 15 0x00) ++ banks
 
 -- nothing is known of the modules, or all six quantities are 0
+abbrev pub noBanks : List ℕ
+noBanks = replicate 13 0x00
+
 abbrev pub reportOfString : ℕ → ℕ → ℕ → ℕ → List ℕ
-reportOfString answer n fail close = reportWith answer n fail close (replicate 7 0x00)
+reportOfString answer n fail close = reportWith answer n fail close noBanks
 
 -- 0 before the cycle `first`, the value from it on
 abbrev pub since : ℕ → ℕ → ℕ → ℕ

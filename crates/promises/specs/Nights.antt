@@ -10,7 +10,7 @@ use Rattle.cycle.specs.declared.answer.Answer.the-variants.{Taken}
 use Rattle.cycle.specs.declared.values.Quantities.{Quantities}
 use Rattle.promises.specs.NightRecords.{nightMap, sampleWith, quietSample, quietTemperatures}
 use Rattle.promises.specs.NightRecords.{minorWith, recordWith, recordOfSample, atMajors, keeping}
-use Rattle.promises.specs.NightHolds.{Exchange, Night, stepping, feeding, reportWith, reportOfString, since, cycles}
+use Rattle.promises.specs.NightHolds.{Exchange, Night, stepping, feeding, reportWith, noBanks, reportOfString, since, cycles}
 use Rattle.promises.specs.NightsOfLeaks.{temperatureNights, frozenNights}
 use Rattle.promises.specs.NightsOfJets.{jetNights}
 use Rattle.promises.specs.NightsOfRequests.{requestNights}
@@ -24,7 +24,7 @@ use Rattle.promises.specs.NightsOfPaths.{pathNights}
 use Rattle.promises.specs.NightsOfLostValves.{lostValveNights}
 
 -- "First record 52 4D 00 01 00, then four times (twelve 00, then ..)": 02, order 7, "each 0F becomes FF and the sum 04 9C". "Report:
--- 52 52 00 00 00 00 01, then 27 bytes 00."
+-- 52 52 00 00 00 00 01, then" (02, order 10: "the first night's ends in") "33 bytes 00".
 abbrev pub fourTimes : List ℕ → List ℕ
 fourTimes l = l ++ l ++ l ++ l
 
@@ -34,7 +34,7 @@ firstRecord =
     (record {
       bytes = 0x52 ∷ 0x4D ∷ 0x00 ∷ 0x01 ∷ 0x00 ∷ fourTimes (replicate 12 0x00 ++ (0xFF ∷ [])) ++ (0x04 ∷ 0x9C ∷ []);
       answer = Taken;
-      report = 0x52 ∷ 0x52 ∷ 0x00 ∷ 0x00 ∷ 0x00 ∷ 0x00 ∷ 0x01 ∷ replicate 27 0x00;
+      report = 0x52 ∷ 0x52 ∷ 0x00 ∷ 0x00 ∷ 0x00 ∷ 0x00 ∷ 0x01 ∷ replicate 33 0x00;
     }
     ∷ [])
 
@@ -111,10 +111,16 @@ abbrev pub lessOxidizer : List Quantities
 lessOxidizer = keeping 516 500 ∷ keeping 517 500 ∷ keeping 500 500 ∷ []
 
 -- nothing before 25; then bit 1 of the balance byte, module 1 being out of balance; from 50 on also bits 4 and 5, the oxidizer being the
--- lesser in modules 0 and 1 and not in module 2; the lesser is 500 everywhere
+-- lesser in modules 0 and 1 and not in module 2; the lesser is 500 everywhere. 02, order 10: fuel less oxidizer is -16, -17 and 0, from 50
+-- on 16, 17 and 0
+abbrev pub lesserFrom25 : List ℕ
+lesserFrom25 = 0x01 ∷ 0xF4 ∷ 0x01 ∷ 0xF4 ∷ 0x01 ∷ 0xF4 ∷ []
+
 abbrev pub banksAt : ℕ → List ℕ
 banksAt n =
-    cond (ltb n 25) (replicate 7 0x00) (cond (ltb n 50) 0x02 0x32 ∷ 0x01 ∷ 0xF4 ∷ 0x01 ∷ 0xF4 ∷ 0x01 ∷ 0xF4 ∷ [])
+    cond (ltb n 25) noBanks
+    (cond (ltb n 50) (0x02 ∷ lesserFrom25 ++ (0xFF ∷ 0xF0 ∷ 0xFF ∷ 0xEF ∷ 0x00 ∷ 0x00 ∷ []))
+    (0x32 ∷ lesserFrom25 ++ (0x00 ∷ 0x10 ∷ 0x00 ∷ 0x11 ∷ 0x00 ∷ 0x00 ∷ [])))
 
 abbrev pub weighing : ℕ → Exchange
 weighing n = record {

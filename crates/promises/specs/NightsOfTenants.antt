@@ -11,7 +11,7 @@ use Rattle.cycle.specs.declared.answer.Answer.the-variants.{Taken, Stale, BothW
 use Rattle.cycle.specs.declared.map.Masks.{Masks}
 use Rattle.feed.specs.Bytes.{inTwo, inFour}
 use Rattle.promises.specs.Instance.{warmWords}
-use Rattle.promises.specs.NightHolds.{Handed, Night, feeding}
+use Rattle.promises.specs.NightHolds.{Handed, Night, feeding, noBanks}
 use Rattle.promises.specs.NightBytes.{Said, quiet, driving, commanding, majorWithAt, minorAt, Shown, shows, shownBytes}
 
 abbrev pub tenantMap : List Masks
@@ -36,7 +36,7 @@ abbrev pub alone : ℕ → List ℕ
 alone n = majorWithAt (warmWords 256) (replicate 12 0x00) n 0x00 (driving 0x00000020) quiet
 
 abbrev pub aloneAt : ℕ → ℕ → ℕ → Handed
-aloneAt n fail close = getting (alone n) Taken 0 n (shows fail close) (shows 0x00000000 0x00) (replicate 7 0x00)
+aloneAt n fail close = getting (alone n) Taken 0 n (shows fail close) (shows 0x00000000 0x00) noBanks
 
 abbrev pub tenantAlone : List Handed
 tenantAlone = aloneAt 25 0x00000000 0x00 ∷ aloneAt 50 0x00000020 0x00 ∷ aloneAt 75 0x00000020 0x02 ∷ []
@@ -51,9 +51,9 @@ coldWords = warmWords 2 ++ inTwo 65535 ++ warmWords 13 ++ inTwo 63 ++ warmWords 
 abbrev pub uneven : List ℕ
 uneven = inTwo 1000 ++ inTwo 200 ++ inTwo 500 ++ inTwo 500 ++ inTwo 500 ++ inTwo 500
 
--- module 0 is out of balance, its oxidizer the lesser
+-- module 0 is out of balance, its oxidizer the lesser by 800
 abbrev pub unevenBanks : List ℕ
-unevenBanks = 0x11 ∷ inTwo 200 ++ inTwo 500 ++ inTwo 500
+unevenBanks = 0x11 ∷ inTwo 200 ++ inTwo 500 ++ inTwo 500 ++ inTwo 800 ++ inTwo 0 ++ inTwo 0
 
 -- of string 0: jets 3, 9 and 12, which is in no mask, commanded, jet 3 with pressure; the drivers of jets 0 and 2 on beside that of jet 5;
 -- the valves of manifolds 2 and 7 closed; these requests

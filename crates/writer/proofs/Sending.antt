@@ -118,7 +118,7 @@ module _ (r : Record) (box : List ℕ) (written : (write r box) .answer ≡ Writ
   settled-report : (x : Stepped) (n : ℕ) → writesReport (x .answer) ≡ true
       → reportWritten (settledTo x n out) ≡ reportOf (x .answer) (x .hall) ∷ []
   settled-report x n t =
-      rw t (ap (λ (l : List ℕ). l ∷ []) (take-at (reportOf (x .answer) (x .hall)) (drop 34 out) 34 (report-length (x .answer) (x .hall))))
+      rw t (ap (λ (l : List ℕ). l ∷ []) (take-at (reportOf (x .answer) (x .hall)) (drop 40 out) 40 (report-length (x .answer) (x .hall))))
 
   last-piece : (m : Monitor) (p : List ℕ) (ps : List (List ℕ)) → holds m ++ p ≡ bytesOf r → length (joined ps) ≡ 0 → Comes m (p ∷ ps)
   unfolding monitorOver reportsOver

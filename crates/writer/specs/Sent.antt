@@ -26,7 +26,7 @@ monitorOver m (p ∷ ps) out = monitorOver ((call m p out) .outcome .monitor) ps
 
 -- the reports that they write
 abbrev pub reportWritten : Result → List (List ℕ)
-reportWritten c = cond (writesReport (c .outcome .answer)) (take 34 (c .outbox) ∷ []) []
+reportWritten c = cond (writesReport (c .outcome .answer)) (take 40 (c .outbox) ∷ []) []
 
 unfoldable pub reportsOver : Monitor → List (List ℕ) → List ℕ → List (List ℕ)
 reportsOver m [] out = []

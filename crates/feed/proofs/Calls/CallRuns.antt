@@ -1,50 +1,41 @@
--- What any calls keep, from fresh over an accepted map: the hall's run over the records answered 0, and numbers that fit their bytes in a
--- report. Assumes nothing.
+-- What any calls keep, from fresh over an accepted map: the hall's run over the records answered 0, that n fits its bytes in a report, and
+-- that these records are whole. Assumes nothing.
 use mathlib.Core.Path.{_≡_, refl, ap, subst, _∙_}
 use mathlib.Core.Bool.{Bool, true, false, cond, _&&_}
 use mathlib.Core.List.{List, [], _∷_, _++_}
 use mathlib.Core.Logic.{_⊎_, inl, inr}
-use Prim.Native.Nat.{ℕ, _+_, _*_, _<_, _≤_}
+use Prim.Native.Nat.{ℕ, _+_, _<_, _≤_}
 use native.Mathlib.Omega.{arith}
-use lib.ListN.{length, getD, getD-replicate}
+use lib.ListN.{length, getD}
 use Rattle.bits.specs.Bit.{bit, any}
 use Rattle.bits.proofs.Words.{any-same}
-use Rattle.cycle.specs.Size.{stringCount, jetCount, manifoldCount, moduleCount, lastCount}
+use Rattle.cycle.specs.Size.{stringCount, jetCount, manifoldCount, lastCount}
 use Rattle.cycle.specs.Answers.{isTaken}
 use Rattle.cycle.specs.Jets.{JetRecord, run, askedSinceDrop}
 use Rattle.cycle.specs.Map.{masksOf, inMask, FitMap, refused}
-use Rattle.cycle.specs.Banks.{noBank, noQuantities}
-use Rattle.cycle.specs.Records.{Record, minor, major}
+use Rattle.cycle.specs.Records.{Record}
 use Rattle.cycle.specs.Hall.{stringOf, freshHall, started, verdictOn, steppedBy, stepped}
 use Rattle.cycle.specs.Views.{jetOf}
-use Rattle.cycle.specs.Proper.{ProperHall}
-use Rattle.cycle.specs.Inside.Runs.{TakenRecord, bankBy}
+use Rattle.cycle.specs.Inside.Runs.{TakenRecord}
 use Rattle.cycle.specs.Inside.Runs as runs
-use Rattle.cycle.specs.declared.banks.Bank.{Bank}
 use Rattle.cycle.specs.declared.hall.Hall.{Hall}
 use Rattle.cycle.specs.declared.hall.Stepped.{Stepped}
 use Rattle.cycle.specs.declared.map.Masks.{Masks}
 use Rattle.cycle.specs.declared.number.Verdict.{Verdict}
 use Rattle.cycle.specs.declared.number.Verdict.the-variants.{Takes, Refuses}
-use Rattle.cycle.specs.declared.values.Quantities.{Quantities}
 use Rattle.cycle.proofs.Maps.{in-word}
-use Rattle.cycle.proofs.Balance.{weighed-exactly}
 use Rattle.cycle.proofs.Verdicts.{verdict-follows}
-use Rattle.cycle.proofs.HallAgrees.{number-after, bank-after}
+use Rattle.cycle.proofs.HallAgrees.{number-after}
 use Rattle.cycle.proofs.Runs.{Run, run-fresh, run-step}
-use Rattle.feed.specs.Size.{mostQuantity, quantityLength, quantitiesFrom, quantitiesLength, outboxNeeded}
-use Rattle.feed.specs.Bytes.{two}
-use Rattle.feed.specs.Values.{quantitiesOf, majorOf, valuesOf}
-use Rattle.feed.specs.Good.{QuantitiesRight, WholeRecord}
+use Rattle.feed.specs.Size.{outboxNeeded}
+use Rattle.feed.specs.Good.{WholeRecord}
 use Rattle.feed.specs.Settled.{hasRecord, recordIn, valuesIn}
 use Rattle.feed.specs.Call.{holds, Result, startedOver, called, call}
 use Rattle.feed.specs.Answered.{apart}
-use Rattle.feed.specs.Heard.{Heard, reachedBy, jetHistory}
+use Rattle.feed.specs.Heard.{Heard, Each, reachedBy, jetHistory}
 use Rattle.feed.specs.Calls.{Made, monitorAfter, takenRecords}
 use Rattle.feed.specs.declared.call.Monitor.{Monitor}
 use Rattle.feed.proofs.Records.Lengths.{below-or}
-use Rattle.feed.proofs.Records.Told.{values-minor, values-major}
-use Rattle.feed.proofs.Records.HeardValues.{quantities-at}
 use Rattle.feed.proofs.Records.Carried.{Carry, behind, reached-carried}
 use Rattle.feed.proofs.Records.Carried as heard
 use Rattle.feed.proofs.Answers.StepAnswers.{taken-number}
@@ -53,46 +44,6 @@ use Rattle.feed.proofs.Calls.CallCases.{CallCase, none, some, call-case
 use Rattle.feed.proofs.Answers.Fixed.{short-call}
 use Rattle.feed.proofs.Reading.FirstRecord.{record-whole}
 
--- ---- numbers that fit
-
-pub record Fits (h : Hall) : Type 0 where
-  pub number : h .n ≤ lastCount
-  pub lesser : (m : ℕ) → m < moduleCount → (getD (h .banks) m noBank) .lesser ≤ mostQuantity
-
--- the quantities of a record that carries them are at most 1,000
-abbrev pub Small : Record → Type 0
-Small (minor r) = Unit {0}
-Small (major r) = (m : ℕ) → m < moduleCount → (getD (r .quantities) m noQuantities) .fuel ≤ mostQuantity
-
-bank-small : (r : Record) (m : ℕ) (b : Bank) → m < moduleCount → Small r → b .lesser ≤ mostQuantity → (bankBy m r b) .lesser ≤ mostQuantity
-bank-small (minor r) m b l s h = h
-bank-small (major r) m b l s h =
-    let q : Quantities = getD (r .quantities) m noQuantities in
-    omega (arith, weighed-exactly q .smaller, s m l)
-
-step-fits : (r : Record) (h : Hall) → ProperHall h → Small r → Fits h → Fits ((stepped r h) .hall)
-unfolding stepped
-step-fits r h p s f = by (verdictOn (h .n) (h .masks) r) refl
-  where
-    by : (v : Verdict) → verdictOn (h .n) (h .masks) r ≡ v → Fits ((steppedBy v r h) .hall)
-    by (Takes next) e = record {
-      number = rw (number-after r next h) (verdict-follows (h .n) (h .masks) r next e .most);
-      lesser = λ m l. rw (bank-after r next h p m l) (bank-small r m (getD (h .banks) m noBank) l s (f .lesser m l));
-    }
-    by (Refuses a) e = f
-
--- a whole record's quantities
-quantities-small : (r : List ℕ) → QuantitiesRight r → (m : ℕ) → m < moduleCount
-    → (getD (quantitiesOf r) m noQuantities) .fuel ≤ mostQuantity
-quantities-small r q m l =
-    let n : quantitiesFrom + quantityLength * (2 * m) ≡ quantitiesFrom + quantitiesLength * m = omega arith in
-    rw (quantities-at r m l) (subst (λ (i : ℕ). two r i ≤ mostQuantity) n (q (2 * m) (omega arith)))
-
-record-small : (r : List ℕ) → WholeRecord r → Small (valuesOf r)
-unfolding majorOf
-record-small r (inl w) = rw (values-minor r (w .mark .1)) tt
-record-small r (inr w) = rw (values-major r (w .mark .1)) (λ m b. quantities-small r (w .quantities) m b)
-
 -- ---- what is kept
 
 -- the hall's run over the values that the records heard carry
@@ -100,7 +51,8 @@ pub record Kept (masks : List Masks) (h : Hall) (ts : List Heard) : Type 0 where
   pub values : List TakenRecord
   pub carry : Carry ts values
   pub run : Run masks h values
-  pub fits : Fits h
+  pub most : h .n ≤ lastCount
+  pub whole : Each (λ t. WholeRecord (t .bytes)) ts
 
 -- n is the number that the records taken have reached
 pub kept-number : {masks : List Masks} {h : Hall} {ts : List Heard} → Kept masks h ts → h .n ≡ reachedBy ts
@@ -131,8 +83,13 @@ module _ (masks : List Masks) (h : Hall) (ts : List Heard) (kept : Kept masks h 
   abbrev x : Stepped
   x = stepped (valuesIn l) h
 
-  fits-next : Fits (x .hall)
-  fits-next = step-fits (valuesIn l) h (kept .run .proper) (record-small (recordIn l) (record-whole l z)) (kept .fits)
+  most-next : x .hall .n ≤ lastCount
+  unfolding stepped
+  most-next = by (verdictOn (h .n) (h .masks) (valuesIn l)) refl
+    where
+      by : (v : Verdict) → verdictOn (h .n) (h .masks) (valuesIn l) ≡ v → (steppedBy v (valuesIn l) h) .hall .n ≤ lastCount
+      by (Takes next) e = rw (number-after (valuesIn l) next h) (verdict-follows (h .n) (h .masks) (valuesIn l) next e .most)
+      by (Refuses a) e = kept .most
 
   run-next : (b : Bool) → isTaken (x .answer) ≡ b
       → Run masks (x .hall) (cond b (record { n = x .hall .n; values = valuesIn l } ∷ kept .values) (kept .values))
@@ -156,9 +113,16 @@ module _ (masks : List Masks) (h : Hall) (ts : List Heard) (kept : Kept masks h 
             (λ (k : ℕ). Carry (record { n = k; bytes = recordIn l } ∷ ts) (record { n = x .hall .n; values = valuesIn l } ∷ kept .values))
             n (behind (x .hall .n) (recordIn l) (kept .carry));
         run = run-next true e;
-        fits = fits-next;
+        most = most-next;
+        whole = (record-whole l z, kept .whole);
       }
-  step-kept false e = record { values = kept .values; carry = kept .carry; run = run-next false e; fits = fits-next }
+  step-kept false e = record {
+    values = kept .values;
+    carry = kept .carry;
+    run = run-next false e;
+    most = most-next;
+    whole = kept .whole;
+  }
 
 module _ (masks : List Masks) (m : Monitor) (piece out : List ℕ) (ts : List Heard) (kept : Kept masks (m .hall) ts) where
   abbrev After : Result → Type 0
@@ -179,12 +143,9 @@ module _ (masks : List Masks) (m : Monitor) (piece out : List ℕ) (ts : List He
 
 -- ---- from fresh over an accepted map
 
-fresh-fits : (masks : List Masks) → Fits (freshHall masks)
+fresh-most : (masks : List Masks) → (freshHall masks) .n ≤ lastCount
 unfolding freshHall
-fresh-fits masks = record {
-  number = omega arith;
-  lesser = λ m l. rw (getD-replicate moduleCount m noBank noBank l) (omega arith);
-}
+fresh-most masks = omega arith
 
 pub started-hall : (masks : List Masks) → refused stringCount masks ≡ false → (startedOver masks) .monitor .hall ≡ freshHall masks
 unfolding startedOver started
@@ -195,6 +156,6 @@ pub calls-kept : (masks : List Masks) → FitMap masks → refused stringCount m
 unfolding monitorAfter takenRecords
 calls-kept masks fit accepted [] =
     rw (started-hall masks accepted)
-    (record { values = []; carry = heard.Carry.none; run = run-fresh masks fit accepted; fits = fresh-fits masks })
+    (record { values = []; carry = heard.Carry.none; run = run-fresh masks fit accepted; most = fresh-most masks; whole = tt })
 calls-kept masks fit accepted (c ∷ cs) =
     call-kept masks (monitorAfter masks cs) (c .piece) (c .outbox) (takenRecords masks cs) (calls-kept masks fit accepted cs)

@@ -7,7 +7,8 @@ use Rattle.feed.specs.Size.{markLength, wireAt, pathAt, samplesFrom, val
 use Rattle.feed.specs.Size.{temperaturesFrom, temperatureCount, temperaturesLength, requestsFrom, requestsLength, dropsFrom}
 use Rattle.feed.specs.Size.{quantitiesFrom, quantitiesLength, majorSummed, majorLength, leastLength, storeLength, mostHeld, answerAt}
 use Rattle.feed.specs.Size.{countAt}
-use Rattle.feed.specs.Size.{stringsFrom, stringPart, balanceAt, lesserFrom, lesserLength, oxidizerFrom, reportLength, outboxNeeded}
+use Rattle.feed.specs.Size.{stringsFrom, stringPart, balanceAt, lesserFrom, lesserLength, differencesFrom, differenceLength}
+use Rattle.feed.specs.Size.{oxidizerFrom, reportLength, outboxNeeded}
 use Rattle.feed.specs.Size.{masksLength, mapLength}
 
 -- ---- a record
@@ -105,13 +106,19 @@ lesser-from = refl
 pub lesser-length : lesserLength ≡ 2
 lesser-length = refl
 
+pub differences-from : differencesFrom ≡ 34
+differences-from = refl
+
+pub difference-length : differenceLength ≡ 2
+difference-length = refl
+
 pub oxidizer-from : oxidizerFrom ≡ 4
 oxidizer-from = refl
 
-pub report-length : reportLength ≡ 34
+pub report-length : reportLength ≡ 40
 report-length = refl
 
-pub outbox-needed : outboxNeeded ≡ 34
+pub outbox-needed : outboxNeeded ≡ 40
 outbox-needed = refl
 
 -- ---- the map

@@ -11,8 +11,8 @@ use Rattle.cycle.specs.declared.banks.Bank.{Bank}
 use Rattle.cycle.specs.declared.hall.Hall.{Hall}
 use Rattle.cycle.proofs.Answers.{number-byte}
 use Rattle.feed.specs.Bytes.{inTwo, inFour, parts}
-use Rattle.feed.specs.Report.{headOf, stringBytes, stringsBytes, lesserShown, lesserBytes, banksBytes}
-use Rattle.feed.specs.Report.{reportedFail, reportedClose, reportOf}
+use Rattle.feed.specs.Report.{headOf, stringBytes, stringsBytes, lesserShown, lesserBytes, differenceShown, differencesBytes}
+use Rattle.feed.specs.Report.{banksBytes, reportedFail, reportedClose, reportOf}
 
 abbrev Bytes : List ℕ → Type 0
 Bytes [] = Unit {0}
@@ -51,9 +51,13 @@ lesser-bytes : (banks : List Bank) → Bytes (lesserBytes banks)
 unfolding lesserBytes
 lesser-bytes banks = parts-bytes (lesserShown banks) (λ m. two-bytes ((getD banks m noBank) .lesser)) moduleCount
 
+differences-bytes : (banks : List Bank) → Bytes (differencesBytes banks)
+unfolding differencesBytes
+differences-bytes banks = parts-bytes (differenceShown banks) (λ m. two-bytes ((getD banks m noBank) .difference)) moduleCount
+
 banks-bytes : (banks : List Bank) → Bytes (banksBytes banks)
 unfolding banksBytes
-banks-bytes banks = (omega arith, lesser-bytes banks)
+banks-bytes banks = (omega arith, both (lesserBytes banks) (differencesBytes banks) (lesser-bytes banks) (differences-bytes banks))
 
 head-bytes : (a : Answer) (n : ℕ) → Bytes (headOf (numberOf a) n)
 unfolding headOf

@@ -1,7 +1,7 @@
 -- The lengths of a report and of its parts. Assumes nothing.
-use mathlib.Core.Path.{_≡_, refl, ap, _∙_}
+use mathlib.Core.Path.{_≡_, refl, ap, ap₂, _∙_}
 use mathlib.Core.List.{List, _++_}
-use Prim.Native.Nat.{ℕ, suc, _*_}
+use Prim.Native.Nat.{ℕ, suc, _+_, _*_}
 use native.Mathlib.Omega.{arith}
 use lib.ListN.{length, length-append}
 use Rattle.cycle.specs.Size.{stringCount, moduleCount}
@@ -9,8 +9,9 @@ use Rattle.cycle.specs.Answers.{numberOf}
 use Rattle.cycle.specs.declared.answer.Answer.{Answer}
 use Rattle.cycle.specs.declared.banks.Bank.{Bank}
 use Rattle.cycle.specs.declared.hall.Hall.{Hall}
-use Rattle.feed.specs.Size.{stringsFrom, stringPart, balanceAt, lesserLength, reportLength}
-use Rattle.feed.specs.Report.{headOf, stringBytes, stringsBytes, lesserShown, lesserBytes, banksBytes, reportBy}
+use Rattle.feed.specs.Size.{stringsFrom, stringPart, balanceAt, lesserLength, differenceLength, reportLength}
+use Rattle.feed.specs.Report.{headOf, stringBytes, stringsBytes, lesserShown, lesserBytes, differenceShown, differencesBytes}
+use Rattle.feed.specs.Report.{banksBytes, reportBy}
 use Rattle.feed.specs.Report.{reportedFail, reportedClose, reportOf}
 use Rattle.feed.proofs.Reports.Parts.{parts-length}
 
@@ -31,9 +32,17 @@ pub lesser-length : (banks : List Bank) → length (lesserBytes banks) ≡ lesse
 unfolding lesserBytes
 lesser-length banks = parts-length lesserLength (lesserShown banks) (λ m. refl) moduleCount
 
-pub banks-length : (banks : List Bank) → length (banksBytes banks) ≡ suc (lesserLength * moduleCount)
+pub differences-length : (banks : List Bank) → length (differencesBytes banks) ≡ differenceLength * moduleCount
+unfolding differencesBytes
+differences-length banks = parts-length differenceLength (differenceShown banks) (λ m. refl) moduleCount
+
+pub banks-length : (banks : List Bank)
+    → length (banksBytes banks) ≡ suc (lesserLength * moduleCount + differenceLength * moduleCount)
 unfolding banksBytes
-banks-length banks = ap suc (lesser-length banks)
+banks-length banks =
+    ap suc
+    (length-append (lesserBytes banks) (differencesBytes banks)
+    ∙ ap₂ (λ (l d : ℕ). l + d) (lesser-length banks) (differences-length banks))
 
 -- what stands before the balance byte
 pub front-length : (answer n : ℕ) (fail close : ℕ → ℕ) → length (headOf answer n ++ stringsBytes fail close) ≡ balanceAt

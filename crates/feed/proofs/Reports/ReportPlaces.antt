@@ -1,5 +1,5 @@
--- What stands where in a report: the answer, n, each string's fail word and close byte, the balance byte and each module's lesser
--- quantity. Assumes nothing.
+-- What stands where in a report: the answer, n, each string's fail word and close byte, the balance byte, each module's lesser quantity and
+-- its difference. Assumes nothing.
 use mathlib.Core.Path.{_≡_, refl, sym, ap, _∙_}
 use mathlib.Core.List.{List, _++_, append-assoc}
 use Prim.Native.Nat.{ℕ, suc, _+_, _*_, _%_, _^_, _<_}
@@ -11,14 +11,17 @@ use Rattle.cycle.specs.Answers.{numberOf}
 use Rattle.cycle.specs.Banks.{noBank}
 use Rattle.cycle.specs.Hall.{stringOf}
 use Rattle.cycle.specs.declared.answer.Answer.{Answer}
+use Rattle.cycle.specs.declared.banks.Bank.{Bank}
 use Rattle.cycle.specs.declared.hall.Hall.{Hall}
 use Rattle.feed.specs.Size.{wordLength, answerAt, countAt, stringsFrom, stringPart, balanceAt, lesserFrom, lesserLength}
+use Rattle.feed.specs.Size.{differencesFrom, differenceLength}
 use Rattle.feed.specs.Bytes.{two, four, inTwo}
-use Rattle.feed.specs.Report.{headOf, stringBytes, stringsBytes, lesserShown, balanceOf, lesserBytes}
+use Rattle.feed.specs.Report.{headOf, stringBytes, stringsBytes, balanceOf, lesserShown, lesserBytes}
+use Rattle.feed.specs.Report.{differenceShown, differencesBytes}
 use Rattle.feed.specs.Report.{banksBytes, reportedFail, reportedClose, reportOf}
 use Rattle.feed.proofs.Records.NumbersInBytes.{two-inTwo, four-inFour, two-stands, four-stands}
 use Rattle.feed.proofs.Reports.Parts.{getD-past, parts-at}
-use Rattle.feed.proofs.Reports.ReportLengths.{head-length, string-length, strings-length, front-length}
+use Rattle.feed.proofs.Reports.ReportLengths.{head-length, string-length, strings-length, front-length, lesser-length}
 
 pub answer-at : (a : Answer) (h : Hall) → getD (reportOf a h) answerAt 0 ≡ numberOf a
 unfolding reportOf headOf
@@ -72,13 +75,37 @@ pub balance-at : (a : Answer) (h : Hall) → getD (reportOf a h) balanceAt 0 ≡
 unfolding banksBytes
 balance-at a h = bank-in a h 0
 
-pub lesser-at : (a : Answer) (h : Hall) (m : ℕ) → m < moduleCount → (getD (h .banks) m noBank) .lesser < 65536
-    → two (reportOf a h) (lesserFrom + lesserLength * m) ≡ (getD (h .banks) m noBank) .lesser
-unfolding banksBytes lesserBytes
-lesser-at a h m l b =
-    two-stands (reportOf a h) (inTwo ((getD (h .banks) m noBank) .lesser)) (lesserFrom + lesserLength * m)
-    (λ i j.
-    let e : lesserFrom + lesserLength * m + i ≡ balanceAt + suc (lesserLength * m + i) = omega arith in
-    ap (λ (n : ℕ). getD (reportOf a h) n 0) e ∙ bank-in a h (suc (lesserLength * m + i))
-    ∙ parts-at lesserLength (lesserShown (h .banks)) (λ k. refl) moduleCount m i l j)
-    ∙ two-inTwo ((getD (h .banks) m noBank) .lesser) b
+module _ (a : Answer) (h : Hall) (m : ℕ) (l : m < moduleCount) where
+  abbrev bank : Bank
+  bank = getD (h .banks) m noBank
+
+  -- both run through the words of all modules, the differences behind the lesser quantities
+  lesser-byte : (i : ℕ) → i < lesserLength
+      → getD (reportOf a h) (lesserFrom + lesserLength * m + i) 0 ≡ getD (lesserShown (h .banks) m) i 0
+  unfolding banksBytes lesserBytes
+  lesser-byte i j =
+      let e : lesserFrom + lesserLength * m + i ≡ balanceAt + suc (lesserLength * m + i) = omega arith in
+      ap (λ (n : ℕ). getD (reportOf a h) n 0) e ∙ bank-in a h (suc (lesserLength * m + i))
+      ∙ List·getD-append (lesserBytes (h .banks)) (differencesBytes (h .banks)) 0 (lesserLength * m + i)
+      (omega (arith, lesser-length (h .banks)))
+      ∙ parts-at lesserLength (lesserShown (h .banks)) (λ k. refl) moduleCount m i l j
+
+  difference-byte : (i : ℕ) → i < differenceLength
+      → getD (reportOf a h) (differencesFrom + differenceLength * m + i) 0 ≡ getD (differenceShown (h .banks) m) i 0
+  unfolding banksBytes differencesBytes
+  difference-byte i j =
+      let past = lesserLength * moduleCount in
+      let k = differenceLength * m + i in
+      let e : differencesFrom + differenceLength * m + i ≡ balanceAt + suc (past + k) = omega arith in
+      ap (λ (n : ℕ). getD (reportOf a h) n 0) e ∙ bank-in a h (suc (past + k))
+      ∙ getD-past (lesserBytes (h .banks)) (differencesBytes (h .banks)) past k (lesser-length (h .banks))
+      ∙ parts-at differenceLength (differenceShown (h .banks)) (λ k. refl) moduleCount m i l j
+
+  pub lesser-at : bank .lesser < 65536 → two (reportOf a h) (lesserFrom + lesserLength * m) ≡ bank .lesser
+  lesser-at b =
+      two-stands (reportOf a h) (inTwo (bank .lesser)) (lesserFrom + lesserLength * m) lesser-byte ∙ two-inTwo (bank .lesser) b
+
+  pub difference-at : bank .difference < 65536 → two (reportOf a h) (differencesFrom + differenceLength * m) ≡ bank .difference
+  difference-at b =
+      two-stands (reportOf a h) (inTwo (bank .difference)) (differencesFrom + differenceLength * m) difference-byte
+      ∙ two-inTwo (bank .difference) b

@@ -6,35 +6,47 @@ use Prim.Native.Nat.{ℕ, _≤_, _<_, _%_}
 use borrow.Author.Tests.{le-leb, lt-leb}
 use native.Mathlib.Omega.{arith}
 use borrow.Rule.Slice.PartMut.{putMid}
-use lib.ListN.{length, set, take, drop}
-use lib.Seq.{take-suc-set, drop-set-lt}
+use lib.ListN.{length, set, take, drop, length-append, take-append-drop}
+use lib.Seq.{take-suc-set, drop-set-lt, length-take-le}
 use Rattle.cycle.specs.Size.{stringCount, moduleCount}
 use Rattle.cycle.specs.Answers.{numberOf}
 use Rattle.cycle.specs.declared.answer.Answer.{Answer}
 use Rattle.cycle.specs.declared.banks.Bank.{Bank}
 use Rattle.cycle.specs.declared.hall.Hall.{Hall}
-use Rattle.feed.specs.Size.{stringsFrom, balanceAt, lesserFrom, reportLength}
-use Rattle.feed.specs.Report.{headOf, stringBytes, stringsBytes, balanceOf, lesserBytes, banksBytes, reportBy}
+use Rattle.feed.specs.Size.{stringsFrom, balanceAt, lesserFrom, differencesFrom, reportLength}
+use Rattle.feed.specs.Report.{headOf, stringBytes, stringsBytes, balanceOf, lesserBytes, differencesBytes, banksBytes, reportBy}
 use Rattle.feed.specs.Report.{reportedFail, reportedClose, reportOf, reportShown, fitsIn, intoOutbox}
 use Rattle.feed.specs.Inside.Showing.{shownOf}
 use Rattle.feed.proofs.Records.Tables.{table-at}
 use Rattle.feed.proofs.Reports.Parts.{parts-same}
 use Rattle.feed.proofs.Reports.Written.{put-next, next-written}
-use Rattle.feed.proofs.Reports.ReportLengths.{head-length, front-length}
+use Rattle.feed.proofs.Reports.ReportLengths.{head-length, front-length, lesser-length}
 
--- the balance byte, and behind it the lesser quantities
-pub banks-written : (d y : List ℕ) (b : ℕ) (banks : List Bank) → reportLength ≤ length d → b ≡ balanceOf moduleCount banks
-    → y ≡ take lesserFrom (set d balanceAt (b % 256)) ++ (lesserBytes banks ++ drop reportLength (set d balanceAt (b % 256)))
-    → y ≡ take balanceAt d ++ (banksBytes banks ++ drop reportLength d)
+-- the balance byte, x with it, behind it the lesser quantities, y after them, and the differences, z after these
+pub banks-written : (d x y z : List ℕ) (b : ℕ) (banks : List Bank) → reportLength ≤ length d → b ≡ balanceOf moduleCount banks
+    → x ≡ set d balanceAt (b % 256)
+    → y ≡ take lesserFrom x ++ (lesserBytes banks ++ drop differencesFrom x)
+    → z ≡ take differencesFrom y ++ (differencesBytes banks ++ drop reportLength y)
+    → z ≡ take balanceAt d ++ (banksBytes banks ++ drop reportLength d)
 unfolding banksBytes
-banks-written d y b banks l e f =
+banks-written d x y z b banks l e ex ey ez =
     let v = balanceOf moduleCount banks % 256 in
+    let p = take balanceAt d ++ (v ∷ []) in
     let q = lesserBytes banks in
-    f
-    ∙ ap (λ (w : ℕ). take lesserFrom (set d balanceAt (w % 256)) ++ (q ++ drop reportLength (set d balanceAt (w % 256)))) e
-    ∙ ap₂ (λ (s t : List ℕ). s ++ (q ++ t)) (take-suc-set d balanceAt v (omega arith))
-    (drop-set-lt reportLength d balanceAt v (omega arith))
-    ∙ append-assoc (take balanceAt d) (v ∷ []) (q ++ drop reportLength d)
+    let r = differencesBytes banks in
+    let rest = drop reportLength d in
+    let fx : x ≡ p ++ drop lesserFrom d =
+    ex
+    ∙ ap (λ (w : ℕ). set d balanceAt (w % 256)) e
+    ∙ sym (take-append-drop lesserFrom (set d balanceAt v))
+    ∙ ap₂ (λ (s t : List ℕ). s ++ t) (take-suc-set d balanceAt v (omega arith)) (drop-set-lt lesserFrom d balanceAt v (omega arith)) in
+    let lp : length p ≡ lesserFrom =
+    length-append (take balanceAt d) (v ∷ []) ∙ omega (arith, length-take-le balanceAt d (omega arith)) in
+    let fy : y ≡ (p ++ q) ++ drop differencesFrom d = next-written d p q x y lesserFrom differencesFrom lp (omega arith) fx ey in
+    let ly : length (p ++ q) ≡ differencesFrom = length-append p q ∙ omega (arith, lp, lesser-length banks) in
+    next-written d (p ++ q) r y z differencesFrom reportLength ly (omega arith) fy ez
+    ∙ ap (λ (t : List ℕ). t ++ rest) (append-assoc p q r ∙ append-assoc (take balanceAt d) (v ∷ []) (q ++ r))
+    ∙ append-assoc (take balanceAt d) (v ∷ q ++ r) rest
 
 -- the whole: x after the head, y after the strings, z after the banks
 pub report-written : (a : Answer) (k : ℕ) (fail close : ℕ → ℕ) (banks : List Bank) (n : ℕ) (d p x y z : List ℕ) → n ≡ numberOf a

@@ -15,6 +15,7 @@ use Rattle.bits.proofs.Yes.{not-both}
 use Rattle.cycle.specs.Size.{stringCount, manifoldCount, moduleCount}
 use Rattle.cycle.specs.Answers.{writesReport}
 use Rattle.cycle.specs.Map.{masksOf, inMask, FitMap, mapped, refused}
+use Rattle.cycle.specs.Leak.{signed}
 use Rattle.cycle.specs.Banks.{noBank}
 use Rattle.cycle.specs.Hall.{stringOf}
 use Rattle.cycle.specs.declared.answer.Answer.{Answer}
@@ -28,18 +29,19 @@ use Rattle.feed.specs.Bytes.{four}
 use Rattle.feed.specs.Report.{headOf, reportedFail, reportOf}
 use Rattle.feed.specs.Call.{Result, called, call}
 use Rattle.feed.specs.Calls.{Made, monitorAfter, answerOf, reportIn, takenRecords}
-use Rattle.feed.specs.Heard.{Heard, bankHeard}
+use Rattle.feed.specs.Heard.{Heard, bankHeard, differenceHeard}
 use Rattle.feed.specs.Tells.{Tells}
 use Rattle.feed.specs.declared.call.Monitor.{Monitor}
 use Rattle.feed.proofs.Reports.ReportLengths.{report-length}
 use Rattle.feed.proofs.Reports.ReportBytes.{report-bytes}
-use Rattle.feed.proofs.Reports.ReportPlaces.{answer-at, n-at, fail-at, close-at, balance-at, lesser-at}
+use Rattle.feed.proofs.Reports.ReportPlaces.{answer-at, n-at, fail-at, close-at, balance-at, lesser-at, difference-at}
 use Rattle.feed.proofs.Reports.BalanceBits.{unbalanced-bit, oxidizer-bit, blank-bit, balance-byte}
 use Rattle.feed.proofs.Records.Lengths.{below-or}
 use Rattle.feed.proofs.Calls.Calling.{call-called}
 use Rattle.feed.proofs.Calls.CallCases.{CallCase, none, some, call-case}
 use Rattle.feed.proofs.Answers.Fixed.{short-call}
 use Rattle.feed.proofs.Records.Carried.{bank-carried}
+use Rattle.feed.proofs.Records.BanksHeard.{Known, bank-known}
 use Rattle.feed.proofs.Calls.CallRuns.{Kept, calls-kept, kept-number, kept-jet, kept-close}
 
 -- ---- words and bytes that fit
@@ -82,6 +84,9 @@ module _ (masks : List Masks) (h : Hall) (ts : List Heard) (kept : Kept masks h 
   bank-same : (m : ℕ) → m < moduleCount → getD (h .banks) m noBank ≡ bankHeard m ts
   bank-same m l = kept .run .told .banks m l ∙ bank-carried m l (kept .carry)
 
+  known : (m : ℕ) → m < moduleCount → Known (bankHeard m ts) (differenceHeard m ts)
+  known m l = bank-known m l ts (kept .whole)
+
   pub hall-tells : Tells masks a ts report
   unfolding reportOf headOf
   hall-tells = record {
@@ -89,7 +94,7 @@ module _ (masks : List Masks) (h : Hall) (ts : List Heard) (kept : Kept masks h 
     byte = report-bytes a h;
     mark = (refl, refl);
     answer = answer-at a h;
-    number = n-at a h (omega (arith, kept .fits .number)) ∙ kept-number kept;
+    number = n-at a h (omega (arith, kept .most)) ∙ kept-number kept;
     fail = λ s i j l below stands.
         fail-bit s j l
         ∙ ap (λ (b : Bool). b && bit j ((stringOf h s) .standing .fail))
@@ -113,7 +118,11 @@ module _ (masks : List Masks) (h : Hall) (ts : List Heard) (kept : Kept masks h 
           ap (bit 7) e ∙ blank 7 (λ m l. (λ q. omega arith, λ q. omega arith)),
         );
     lesser = λ m l.
-        lesser-at a h m l (omega (arith, kept .fits .lesser m l)) ∙ ap (λ (b : Bank). b .lesser) (bank-same m l);
+        lesser-at a h m l (rw (bank-same m l) (omega (arith, known m l .lesser))) ∙ ap (λ (b : Bank). b .lesser) (bank-same m l);
+    difference = λ m l.
+        ap signed
+        (difference-at a h m l (rw (bank-same m l) (omega (arith, known m l .word))) ∙ ap (λ (b : Bank). b .difference) (bank-same m l))
+        ∙ known m l .signedly;
   }
 
 -- ---- the report of a call

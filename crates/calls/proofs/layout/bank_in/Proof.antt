@@ -6,13 +6,17 @@ use Rattle.calls.proofs.layout.bank_in.Tie as tie
 
 returns : tie.Need-returns
 returns c =
-    let a = c .before .before .before .before .args in
-    bank-read (a .b .now) (a .i) (c .before .before .flag-in .ensures) (c .before .flag-in2 .ensures) (c .read-two .ensures)
+    let lesser = c .before in
+    let a = lesser .before .before .before .before .args in
+    bank-read (a .b .now) (a .i) (lesser .before .before .flag-in .ensures) (lesser .before .flag-in2 .ensures) (lesser .read-two .ensures)
+    (c .read-two2 .ensures)
 
 pub bank-in-spec : {M : Type 1} → statement M
 bank-in-spec =
     tie.close
     (tie.spec
+    (λ c κs. search needs)
+    (λ c. search needs)
     (λ c κs. search needs)
     (λ c. search needs)
     (λ c κs. search needs)
