@@ -7,7 +7,7 @@ import pathlib
 import re
 
 root = pathlib.Path(__file__).resolve().parent.parent
-FRONT = tuple(f"crates/promises/proofs/{name}.antt" for name in ("Promises", "Writer", "Engines", "Tenants", "Keeper"))
+FRONT = tuple(f"crates/promises/proofs/{name}.antt" for name in ("Promises", "Writer", "Engines", "Tenants", "Banks", "Keeper"))
 CRATES = ("plain", "writer", "feed", "cycle", "bits", "lines")
 
 

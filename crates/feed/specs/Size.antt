@@ -1,4 +1,4 @@
--- The sizes and limits of 01, "The feed" and "Which answer a record gets", as 02, orders 6 and 7, amend them, each under one name;
+-- The sizes and limits of 01, "The feed" and "Which answer a record gets", as 02, orders 6, 7 and 10, amend them, each under one name;
 -- src/size.rt says the same. Lengths and places follow from the parts; that they are the numbers that the documents write is said in
 -- proofs/Records/Numerals. Assumes nothing.
 use Prim.Native.Nat.{ℕ, _+_, _-_, _*_}

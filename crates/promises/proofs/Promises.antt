@@ -1,9 +1,9 @@
 -- The front door: what the customer asked for, each demand as theorems about the very definitions that the contracts cite: `call`,
 -- `startedOver`, `startedFrom` and `runs` (feed, specs/Call and Masks). Beside it, of document 02, `Writer`, order 1, about `write`,
--- `Engines`, order 5, and `Tenants`, order 9. That whatever the contracts of `Monitor::call`, `start`, `start_from`, `run`, the hall's step
--- and the writer allow is what these definitions say, and that no public function asks anything of its caller, is proved in `Contracts`;
--- what people rely on beyond the demands in `Keeper`. The words of each statement are defined in specs/ of `feed` and `cycle`; each proof
--- is a citation. Assumes nothing.
+-- `Engines`, order 5, `Tenants`, order 9, and `Banks`, order 10. That whatever the contracts of `Monitor::call`, `start`, `start_from`,
+-- `run`, the hall's step and the writer allow is what these definitions say, and that no public function asks anything of its caller, is
+-- proved in `Contracts`; what people rely on beyond the demands in `Keeper`. The words of each statement are defined in specs/ of `feed`
+-- and `cycle`; each proof is a citation. Assumes nothing.
 use mathlib.Core.Path.{_≡_, refl, sym, _∙_}
 use mathlib.Core.Bool.{Bool, true, false, _&&_, _||_}
 use mathlib.Core.List.{List, [], _∷_, _++_}

@@ -30,6 +30,7 @@ leaks-not-by-range = leak.leaks-not-exactly
 pub signed-is : (t : ℕ) → (t ≤ 32767 → signed t ≡ pos t) × (32768 ≤ t → t ≤ 65535 → signed t ≡ pos t -ℤ pos 65536)
 signed-is t = (leak.signed-up t, leak.signed-down t)
 
+-- "out of balance if the two quantities differ by more than 16 tenths", which is the lesser, and 02, order 10, how far they are apart
 pub balance-limit : (q : Quantities) → Weighed (q .fuel) (q .oxidizer) (weighed q)
 balance-limit = weighed-exactly
 
