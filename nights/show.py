@@ -4,6 +4,7 @@ import struct
 import sys
 
 REPORT = 40  # bytes of a report
+MARK = b"RR"
 ANSWERS = {0: "taken", 1: "stale", 2: "repeat", 3: "count ended", 4: "wrong kind", 7: "a jet named both ways"}
 
 
@@ -30,6 +31,8 @@ def main():
     sys.stdout.reconfigure(line_buffering=True)  # a live feed is shown as it comes
     before, last = seen(bytes(REPORT)), 0
     while len(report := sys.stdin.buffer.read(REPORT)) == REPORT:
+        if not report.startswith(MARK):
+            sys.exit(f"show.py: no mark where a report has to begin: these are not reports of {REPORT} bytes")
         answer, n = struct.unpack_from(">BI", report, 2)
         if answer:
             print(f"cycle {n}: a record was not taken: {answer}, {ANSWERS.get(answer, 'unknown')}")

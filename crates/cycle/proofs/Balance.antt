@@ -62,8 +62,8 @@ module _ (q : Quantities) where
       by (no f) = rw (le-ltb oxidizer fuel (omega arith)) (not-less (omega arith))
 
   -- what the difference says of the flags
-  pub difference-tells : fuel ≤ 1000 → oxidizer ≤ 1000
+  pub quantities-tell : fuel ≤ 1000 → oxidizer ≤ 1000
       → ToldByDifference ((weighed q) .unbalanced) ((weighed q) .oxidizer) (signed ((weighed q) .difference))
-  difference-tells f o =
+  quantities-tell f o =
       rw (weighed-exactly .signedly f o)
       (told-by ((weighed q) .unbalanced) ((weighed q) .oxidizer) fuel oxidizer f o (weighed-exactly .apart) (weighed-exactly .strictly))

@@ -26,8 +26,8 @@ abbrev pub noQuantities : Quantities
 noQuantities = record { fuel = 0; oxidizer = 0 }
 
 -- 02, order 10: "The balance rule now also gives fuel less oxidizer as a signed number, -1,000 to 1,000; .. in two's complement": the kit's
--- own way to write a signed number in 16 bits, which `Leak.signed` reads. Of quantities above 1,000, which no feed brings, it is fuel less
--- oxidizer modulo 65,536.
+-- own way to write a signed number in 16 bits, which `Leak.signed` reads. Of words above 1,000, which no feed brings as quantities, it is
+-- fuel less oxidizer modulo 65,536.
 unfoldable pub fuelLessOxidizer : Quantities → ℕ
 fuelLessOxidizer q = ofZ w16 (pos (q .fuel) -ℤ pos (q .oxidizer))
 

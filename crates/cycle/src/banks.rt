@@ -29,7 +29,7 @@ impl Bank {
     }
 }
 
-// How far apart: of quantities above 1,000, which no feed brings, modulo 65,536.
+// Fuel less oxidizer, a signed number in two's complement; of quantities above 1,000, which no feed brings, modulo 65,536.
 fn fuel_less_oxidizer(q: Quantities) -> u16
     ensures { λ r. ⌜ r ≡ fuelLessOxidizer q ⌝ }
 {

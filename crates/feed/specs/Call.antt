@@ -60,8 +60,8 @@ called m piece out =
     let s = reads (holds m) piece in
     calledBy (settles (look (s .left))) (m .hall) s (length piece - length (s .rest)) out
 
--- 02, order 10: "answer 5 means under 40": "as before, reader too, 0 bytes used", "untouched"; it "is tested before anything else in a
--- call"
+-- 5: "as before, reader too, 0 bytes used", "untouched"; it "is tested before anything else in a call"; 02, order 10: "answer 5 means
+-- under 40"
 unfoldable pub call : Monitor → List ℕ → List ℕ → Result
 call m piece out =
     let c = called m piece out in

@@ -94,10 +94,11 @@ bankHeard m (t ∷ ts) =
     cond (eqb (getD (t .bytes) 1 0) 0x4A)
     (weighed (record { fuel = two (t .bytes) (605 + 4 * m); oxidizer = two (t .bytes) (607 + 4 * m) })) (bankHeard m ts)
 
--- 02, order 10: "fuel less oxidizer as a signed number", of module m by the bytes of the last taken major record; "At fresh they are 0."
+-- 02, order 10: "fuel less oxidizer as a signed number", of module m by a major record's bytes r
 abbrev pub differenceSaid : ℕ → List ℕ → ℤ
 differenceSaid m r = pos (two r (605 + 4 * m)) -ℤ pos (two r (607 + 4 * m))
 
+-- that of the last taken major record; "At fresh they are 0."
 abbrev pub differenceHeard : ℕ → List Heard → ℤ
 differenceHeard m [] = pos 0
 differenceHeard m (t ∷ ts) = cond (eqb (getD (t .bytes) 1 0) 0x4A) (differenceSaid m (t .bytes)) (differenceHeard m ts)

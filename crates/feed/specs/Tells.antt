@@ -15,9 +15,9 @@ use Rattle.feed.specs.Bytes.{two, four}
 use Rattle.feed.specs.Heard.{Heard, reachedBy, jetHistory, bankHeard, differenceHeard}
 
 -- "52 52; answer; n after it (4); for each string the fail word (4) and close byte (1); balance byte; three lesser quantities (2 each)";
--- 02, order 10: "the report carries three of them, 2 bytes each in two's complement, after the lesser quantities. A report is 40 bytes".
--- Each bit of it by the run of `Jets` from fresh over the jet's own values in the records taken. Four strings, each of 32 jets and eight
--- manifolds, and three modules: the counts are written as the documents write them, so that no other is proved.
+-- 02, order 10: three differences, "2 bytes each in two's complement, after the lesser quantities. A report is 40 bytes". Each bit of a
+-- string by the run of `Jets` from fresh over the jet's own values in the records taken; the banks by the last major one. Four strings,
+-- each of 32 jets and eight manifolds, and three modules: the counts are written as the documents write them, so that no other is proved.
 pub record Tells (masks : List Masks) (a : Answer) (ts : List Heard) (report : List ℕ) : Type 0 where
   pub long : length report ≡ 40
   pub byte : (k : ℕ) → getD report k 0 < 256

@@ -42,7 +42,7 @@ calledBy x p out =
       outbox = reportShown (y .answer) (shownOf (y .plain)) ++ drop reportLength out;
     })
 
--- 02, order 10: "answer 5 means under 40", "tested before anything else in a call"
+-- 5: "tested before anything else in a call"; 02, order 10: "answer 5 means under 40"
 unfoldable pub call : PlainMonitor → List ℕ → List ℕ → Result
 call m piece out =
     let c = calledBy (handed (m .reader) piece) (m .plain) out in

@@ -42,7 +42,7 @@ module _ (masks : List Masks) (words : FitMap masks) (accepted : refused stringC
       (signed (two (reportIn masks c cs) (34 + 2 * m)))
   difference-tells = reports.difference-tells masks words accepted c cs writes m module-there
 
--- one of the two is so, whatever was taken
+-- there is a last major record or none, so that one of the first two applies
 pub last-or-none : (ts : List Heard) → NoMajor ts ⊎ ((r : List ℕ) × LastMajor r ts)
 last-or-none = heard.last-or-none
 
@@ -50,4 +50,4 @@ last-or-none = heard.last-or-none
 
 pub quantities-tell : (q : Quantities) → q .fuel ≤ 1000 → q .oxidizer ≤ 1000
     → ToldByDifference ((weighed q) .unbalanced) ((weighed q) .oxidizer) (signed ((weighed q) .difference))
-quantities-tell = balance.difference-tells
+quantities-tell = balance.quantities-tell

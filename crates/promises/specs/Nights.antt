@@ -110,17 +110,17 @@ lessFuel = keeping 500 516 ∷ keeping 500 517 ∷ keeping 500 500 ∷ []
 abbrev pub lessOxidizer : List Quantities
 lessOxidizer = keeping 516 500 ∷ keeping 517 500 ∷ keeping 500 500 ∷ []
 
--- nothing before 25; then bit 1 of the balance byte, module 1 being out of balance; from 50 on also bits 4 and 5, the oxidizer being the
--- lesser in modules 0 and 1 and not in module 2; the lesser is 500 everywhere. 02, order 10: fuel less oxidizer is -16, -17 and 0, from 50
--- on 16, 17 and 0
-abbrev pub lesserFrom25 : List ℕ
-lesserFrom25 = 0x01 ∷ 0xF4 ∷ 0x01 ∷ 0xF4 ∷ 0x01 ∷ 0xF4 ∷ []
+-- the lesser is 500 everywhere
+abbrev pub lesser500 : List ℕ
+lesser500 = 0x01 ∷ 0xF4 ∷ 0x01 ∷ 0xF4 ∷ 0x01 ∷ 0xF4 ∷ []
 
+-- nothing before 25; then bit 1 of the balance byte, module 1 being out of balance; from 50 on also bits 4 and 5, the oxidizer being the
+-- lesser in modules 0 and 1 and not in module 2. 02, order 10: fuel less oxidizer is -16, -17 and 0, from 50 on 16, 17 and 0
 abbrev pub banksAt : ℕ → List ℕ
 banksAt n =
     cond (ltb n 25) noBanks
-    (cond (ltb n 50) (0x02 ∷ lesserFrom25 ++ (0xFF ∷ 0xF0 ∷ 0xFF ∷ 0xEF ∷ 0x00 ∷ 0x00 ∷ []))
-    (0x32 ∷ lesserFrom25 ++ (0x00 ∷ 0x10 ∷ 0x00 ∷ 0x11 ∷ 0x00 ∷ 0x00 ∷ [])))
+    (cond (ltb n 50) (0x02 ∷ lesser500 ++ (0xFF ∷ 0xF0 ∷ 0xFF ∷ 0xEF ∷ 0x00 ∷ 0x00 ∷ []))
+    (0x32 ∷ lesser500 ++ (0x00 ∷ 0x10 ∷ 0x00 ∷ 0x11 ∷ 0x00 ∷ 0x00 ∷ [])))
 
 abbrev pub weighing : ℕ → Exchange
 weighing n = record {

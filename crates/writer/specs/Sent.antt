@@ -1,5 +1,5 @@
 -- Records sent: one cut into pieces, and several one after the other as a feed, the oldest first; and what their values make of a hall. The
--- numbers are written as document 01 writes them. Assumes nothing.
+-- numbers are written as the documents write them. Assumes nothing.
 use mathlib.Core.Path.{_≡_}
 use mathlib.Core.Bool.{cond}
 use mathlib.Core.List.{List, [], _∷_, _++_}

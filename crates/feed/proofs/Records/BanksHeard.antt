@@ -15,13 +15,13 @@ use Rattle.cycle.specs.Leak.{signed}
 use Rattle.cycle.specs.Banks.{weighed, ToldByDifference}
 use Rattle.cycle.specs.declared.banks.Bank.{Bank}
 use Rattle.cycle.specs.declared.values.Quantities.{Quantities}
-use Rattle.cycle.proofs.Balance.{weighed-exactly, difference-tells}
+use Rattle.cycle.proofs.Balance.{weighed-exactly, quantities-tell}
 use Rattle.feed.specs.Bytes.{two}
 use Rattle.feed.specs.Good.{QuantitiesRight, WholeRecord}
 use Rattle.feed.specs.Heard.{Heard, Each, bankHeard, differenceSaid, differenceHeard, NoMajor, LastMajor}
 use Rattle.feed.proofs.Records.Lengths.{by-test}
 
--- a bank b of which the difference is this number
+-- what is known of a bank b whose difference is this number
 pub record Known (b : Bank) (difference : ℤ) : Type 0 where
   pub lesser : b .lesser ≤ 1000
   pub word : b .difference ≤ 65535
@@ -53,7 +53,7 @@ module _ (m : ℕ) (module-there : m < 3) where
         lesser = omega (arith, w .smaller);
         word = w .modulo (omega arith) (omega arith) .0;
         signedly = w .signedly f o;
-        flags = difference-tells (quantities r) f o;
+        flags = quantities-tell (quantities r) f o;
       }
 
   major-known : (r : List ℕ) → WholeRecord r → eqb (getD r 1 0) 0x4A ≡ true → Known (weighed (quantities r)) (differenceSaid m r)
