@@ -1,5 +1,5 @@
--- The banks (2.2.8): "Once per major cycle, for each module, whatever the path bits"; and how far they are apart (02, order 10). Assumes
--- nothing.
+-- The banks (2.2.8): "Once per major cycle, for each module, whatever the path bits"; and how far they are apart (02, order 10).
+-- Assumes nothing.
 use mathlib.Core.Path.{_≡_}
 use mathlib.Core.Bool.{Bool, true, false, cond}
 use mathlib.Core.List.{List}

@@ -37,19 +37,20 @@ balanceOf zero banks = 0
 balanceOf (suc m) banks =
     withBit (withBit (balanceOf m banks) m ((getD banks m noBank) .unbalanced)) (oxidizerFrom + m) ((getD banks m noBank) .oxidizer)
 
--- "three lesser quantities (2 each)"
-abbrev pub lesserShown : List Bank → ℕ → List ℕ
-lesserShown banks m = inTwo ((getD banks m noBank) .lesser)
+-- a word of each module's bank
+abbrev pub wordShown : (Bank → ℕ) → List Bank → ℕ → List ℕ
+wordShown word banks m = inTwo (word (getD banks m noBank))
 
-unfoldable pub lesserBytes : List Bank → List ℕ
-lesserBytes banks = parts moduleCount (lesserShown banks)
+unfoldable pub wordsBytes : (Bank → ℕ) → List Bank → List ℕ
+wordsBytes word banks = parts moduleCount (wordShown word banks)
+
+-- "three lesser quantities (2 each)"
+abbrev pub lesserBytes : List Bank → List ℕ
+lesserBytes banks = wordsBytes (λ b. b .lesser) banks
 
 -- 02, order 10: "the report carries three of them, 2 bytes each in two's complement"
-abbrev pub differenceShown : List Bank → ℕ → List ℕ
-differenceShown banks m = inTwo ((getD banks m noBank) .difference)
-
-unfoldable pub differencesBytes : List Bank → List ℕ
-differencesBytes banks = parts moduleCount (differenceShown banks)
+abbrev pub differencesBytes : List Bank → List ℕ
+differencesBytes banks = wordsBytes (λ b. b .difference) banks
 
 -- "balance byte; three lesser quantities (2 each)"; 02, order 10: the differences "after the lesser quantities"
 unfoldable pub banksBytes : List Bank → List ℕ

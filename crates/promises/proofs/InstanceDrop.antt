@@ -21,7 +21,7 @@ use Rattle.feed.specs.Format.{rowOf, markOf, total, sumOf, reservedZero, quanti
 use Rattle.feed.specs.Reader.{settle, reads}
 use Rattle.feed.specs.Values.{samplesOf, minorOf, wordsAt, temperaturesOf, requestsOf, quantitiesOf, majorOf, valuesOf}
 use Rattle.feed.specs.Bytes.{parts}
-use Rattle.feed.specs.Report.{headOf, stringBytes, stringsBytes, balanceOf, lesserBytes, differencesBytes, banksBytes, reportOf}
+use Rattle.feed.specs.Report.{headOf, stringBytes, stringsBytes, balanceOf, wordsBytes, banksBytes, reportOf}
 use Rattle.feed.specs.Heard.{DropCarriedOut}
 use Rattle.feed.specs.Settled.{recordIn}
 use Rattle.feed.specs.Step.{isWhole}
@@ -57,7 +57,7 @@ unfolding bit without meets withBit pack any each table mapped isMajor missedMaj
     manifold passed manifolds requested behindClosed leakWord badJets closeBits rechecked onFailure kept minorSteps majorSteps minorCycle
     majorCycle fuelLessOxidizer weighed weighedAll freshHall minorStrings majorStrings taken bothWays unlessBothWays verdictOn stepped
     hallAfter samplesOf minorOf wordsAt temperaturesOf requestsOf quantitiesOf majorOf valuesOf parts headOf stringBytes stringsBytes
-    balanceOf lesserBytes differencesBytes banksBytes reportOf warmWords repairBytes hallAt75 hallAt100
+    balanceOf wordsBytes banksBytes reportOf warmWords repairBytes hallAt75 hallAt100
 steps = record { step = refl; told = refl }
 
 -- ---- the call that takes it

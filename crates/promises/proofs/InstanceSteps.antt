@@ -18,7 +18,7 @@ use Rattle.cycle.specs.declared.answer.Answer.the-variants.{Taken, Stale, Repea
 use Rattle.cycle.specs.declared.hall.Hall.{Hall}
 use Rattle.feed.specs.Values.{samplesOf, minorOf, wordsAt, temperaturesOf, requestsOf, quantitiesOf, majorOf, valuesOf}
 use Rattle.feed.specs.Bytes.{parts}
-use Rattle.feed.specs.Report.{headOf, stringBytes, stringsBytes, balanceOf, lesserBytes, differencesBytes, banksBytes, reportOf}
+use Rattle.feed.specs.Report.{headOf, stringBytes, stringsBytes, balanceOf, wordsBytes, banksBytes, reportOf}
 use Rattle.feed.specs.Call.{holding, startedOver}
 use Rattle.promises.specs.NightRecords.{nightMap}
 use Rattle.promises.specs.NightHolds.{reportOfString}
@@ -39,7 +39,7 @@ unfolding bit without meets withBit pack any each table mapped isMajor missedMaj
     manifold passed manifolds requested behindClosed leakWord badJets closeBits rechecked onFailure kept minorSteps majorSteps minorCycle
     majorCycle fuelLessOxidizer weighed weighedAll freshHall minorStrings majorStrings taken bothWays unlessBothWays verdictOn stepped
     hallAfter samplesOf minorOf wordsAt temperaturesOf requestsOf quantitiesOf majorOf valuesOf parts headOf stringBytes stringsBytes
-    balanceOf lesserBytes differencesBytes banksBytes reportOf warmWords majorBytes minorBytes hallAt25 hallAt50 hallAt75
+    balanceOf wordsBytes banksBytes reportOf warmWords majorBytes minorBytes hallAt25 hallAt50 hallAt75
 steps-of = (
   record { step = refl; told = refl },
   record { step = refl; told = refl },

@@ -16,7 +16,7 @@ use Rattle.feed.specs.Reader.{settle, reads}
 use Rattle.feed.specs.Values.{samplesOf, minorOf, wordsAt, temperaturesOf, requestsOf, quantitiesOf, majorOf, valuesOf}
 use Rattle.feed.specs.Step.{isWhole, stepOf}
 use Rattle.feed.specs.Bytes.{parts}
-use Rattle.feed.specs.Report.{headOf, stringBytes, stringsBytes, balanceOf, lesserBytes, differencesBytes, banksBytes, reportOf}
+use Rattle.feed.specs.Report.{headOf, stringBytes, stringsBytes, balanceOf, wordsBytes, banksBytes, reportOf}
 use Rattle.feed.specs.Call.{startedOver, called, call}
 use Rattle.promises.specs.Instance.{warmWords}
 use Rattle.promises.specs.NightHolds.{Night, EachHolds, outcomes, beforeRefusals, afterRefusals, calls, cycles}
@@ -42,7 +42,7 @@ unfolding bit without meets withBit pack any every each table mapped overlap ref
     minorSteps majorSteps minorCycle majorCycle fuelLessOxidizer weighed weighedAll freshHall started minorStrings majorStrings taken
     bothWays unlessBothWays verdictOn stepped rowOf markOf total sumOf reservedZero quantitiesRight goodMinor goodMajor markedLook look
     settle reads samplesOf minorOf wordsAt temperaturesOf requestsOf quantitiesOf majorOf valuesOf isWhole stepOf parts headOf stringBytes
-    stringsBytes balanceOf lesserBytes differencesBytes banksBytes reportOf startedOver called call outcomes beforeRefusals afterRefusals
+    stringsBytes balanceOf wordsBytes banksBytes reportOf startedOver called call outcomes beforeRefusals afterRefusals
     calls cycles warmWords
 computed = tt
 

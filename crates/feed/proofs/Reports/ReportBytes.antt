@@ -11,7 +11,7 @@ use Rattle.cycle.specs.declared.banks.Bank.{Bank}
 use Rattle.cycle.specs.declared.hall.Hall.{Hall}
 use Rattle.cycle.proofs.Answers.{number-byte}
 use Rattle.feed.specs.Bytes.{inTwo, inFour, parts}
-use Rattle.feed.specs.Report.{headOf, stringBytes, stringsBytes, lesserShown, lesserBytes, differenceShown, differencesBytes}
+use Rattle.feed.specs.Report.{headOf, stringBytes, stringsBytes, wordShown, wordsBytes, lesserBytes, differencesBytes}
 use Rattle.feed.specs.Report.{banksBytes, reportedFail, reportedClose, reportOf}
 
 abbrev Bytes : List ℕ → Type 0
@@ -47,17 +47,16 @@ unfolding stringsBytes
 strings-bytes fail close =
     parts-bytes (λ s. stringBytes (fail s) (close s)) (λ s. string-bytes (fail s) (close s)) stringCount
 
-lesser-bytes : (banks : List Bank) → Bytes (lesserBytes banks)
-unfolding lesserBytes
-lesser-bytes banks = parts-bytes (lesserShown banks) (λ m. two-bytes ((getD banks m noBank) .lesser)) moduleCount
-
-differences-bytes : (banks : List Bank) → Bytes (differencesBytes banks)
-unfolding differencesBytes
-differences-bytes banks = parts-bytes (differenceShown banks) (λ m. two-bytes ((getD banks m noBank) .difference)) moduleCount
+words-bytes : (word : Bank → ℕ) (banks : List Bank) → Bytes (wordsBytes word banks)
+unfolding wordsBytes
+words-bytes word banks = parts-bytes (wordShown word banks) (λ m. two-bytes (word (getD banks m noBank))) moduleCount
 
 banks-bytes : (banks : List Bank) → Bytes (banksBytes banks)
 unfolding banksBytes
-banks-bytes banks = (omega arith, both (lesserBytes banks) (differencesBytes banks) (lesser-bytes banks) (differences-bytes banks))
+banks-bytes banks = (
+  omega arith,
+  both (lesserBytes banks) (differencesBytes banks) (words-bytes (λ b. b .lesser) banks) (words-bytes (λ b. b .difference) banks),
+)
 
 head-bytes : (a : Answer) (n : ℕ) → Bytes (headOf (numberOf a) n)
 unfolding headOf

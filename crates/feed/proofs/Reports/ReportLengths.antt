@@ -9,9 +9,9 @@ use Rattle.cycle.specs.Answers.{numberOf}
 use Rattle.cycle.specs.declared.answer.Answer.{Answer}
 use Rattle.cycle.specs.declared.banks.Bank.{Bank}
 use Rattle.cycle.specs.declared.hall.Hall.{Hall}
-use Rattle.feed.specs.Size.{stringsFrom, stringPart, balanceAt, lesserLength, differenceLength, reportLength}
-use Rattle.feed.specs.Report.{headOf, stringBytes, stringsBytes, lesserShown, lesserBytes, differenceShown, differencesBytes}
-use Rattle.feed.specs.Report.{banksBytes, reportBy}
+use Rattle.feed.specs.Size.{quantityLength, stringsFrom, stringPart, balanceAt, lesserLength, differenceLength, reportLength}
+use Rattle.feed.specs.Report.{headOf, stringBytes, stringsBytes, wordShown, wordsBytes, lesserBytes, differencesBytes, banksBytes}
+use Rattle.feed.specs.Report.{reportBy}
 use Rattle.feed.specs.Report.{reportedFail, reportedClose, reportOf}
 use Rattle.feed.proofs.Reports.Parts.{parts-length}
 
@@ -28,13 +28,9 @@ unfolding stringsBytes
 strings-length fail close =
     parts-length stringPart (λ s. stringBytes (fail s) (close s)) (λ s. string-length (fail s) (close s)) stringCount
 
-pub lesser-length : (banks : List Bank) → length (lesserBytes banks) ≡ lesserLength * moduleCount
-unfolding lesserBytes
-lesser-length banks = parts-length lesserLength (lesserShown banks) (λ m. refl) moduleCount
-
-pub differences-length : (banks : List Bank) → length (differencesBytes banks) ≡ differenceLength * moduleCount
-unfolding differencesBytes
-differences-length banks = parts-length differenceLength (differenceShown banks) (λ m. refl) moduleCount
+pub words-length : (word : Bank → ℕ) (banks : List Bank) → length (wordsBytes word banks) ≡ quantityLength * moduleCount
+unfolding wordsBytes
+words-length word banks = parts-length quantityLength (wordShown word banks) (λ m. refl) moduleCount
 
 pub banks-length : (banks : List Bank)
     → length (banksBytes banks) ≡ suc (lesserLength * moduleCount + differenceLength * moduleCount)
@@ -42,7 +38,7 @@ unfolding banksBytes
 banks-length banks =
     ap suc
     (length-append (lesserBytes banks) (differencesBytes banks)
-    ∙ ap₂ (λ (l d : ℕ). l + d) (lesser-length banks) (differences-length banks))
+    ∙ ap₂ (λ (l d : ℕ). l + d) (words-length (λ b. b .lesser) banks) (words-length (λ b. b .difference) banks))
 
 -- what stands before the balance byte
 pub front-length : (answer n : ℕ) (fail close : ℕ → ℕ) → length (headOf answer n ++ stringsBytes fail close) ≡ balanceAt

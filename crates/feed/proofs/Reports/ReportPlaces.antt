@@ -13,15 +13,14 @@ use Rattle.cycle.specs.Hall.{stringOf}
 use Rattle.cycle.specs.declared.answer.Answer.{Answer}
 use Rattle.cycle.specs.declared.banks.Bank.{Bank}
 use Rattle.cycle.specs.declared.hall.Hall.{Hall}
-use Rattle.feed.specs.Size.{wordLength, answerAt, countAt, stringsFrom, stringPart, balanceAt, lesserFrom, lesserLength}
-use Rattle.feed.specs.Size.{differencesFrom, differenceLength}
+use Rattle.feed.specs.Size.{wordLength, quantityLength, answerAt, countAt, stringsFrom, stringPart, balanceAt}
+use Rattle.feed.specs.Size.{lesserFrom, lesserLength, differencesFrom, differenceLength}
 use Rattle.feed.specs.Bytes.{two, four, inTwo}
-use Rattle.feed.specs.Report.{headOf, stringBytes, stringsBytes, balanceOf, lesserShown, lesserBytes}
-use Rattle.feed.specs.Report.{differenceShown, differencesBytes}
+use Rattle.feed.specs.Report.{headOf, stringBytes, stringsBytes, balanceOf, wordShown, wordsBytes, lesserBytes, differencesBytes}
 use Rattle.feed.specs.Report.{banksBytes, reportedFail, reportedClose, reportOf}
 use Rattle.feed.proofs.Records.NumbersInBytes.{two-inTwo, four-inFour, two-stands, four-stands}
 use Rattle.feed.proofs.Reports.Parts.{getD-past, parts-at}
-use Rattle.feed.proofs.Reports.ReportLengths.{head-length, string-length, strings-length, front-length, lesser-length}
+use Rattle.feed.proofs.Reports.ReportLengths.{head-length, string-length, strings-length, front-length, words-length}
 
 pub answer-at : (a : Answer) (h : Hall) → getD (reportOf a h) answerAt 0 ≡ numberOf a
 unfolding reportOf headOf
@@ -75,37 +74,43 @@ pub balance-at : (a : Answer) (h : Hall) → getD (reportOf a h) balanceAt 0 ≡
 unfolding banksBytes
 balance-at a h = bank-in a h 0
 
-module _ (a : Answer) (h : Hall) (m : ℕ) (l : m < moduleCount) where
-  abbrev bank : Bank
-  bank = getD (h .banks) m noBank
+module _ (a : Answer) (h : Hall) where
+  lesser-stand : (i : ℕ) → i < quantityLength * moduleCount → getD (reportOf a h) (lesserFrom + i) 0 ≡ getD (lesserBytes (h .banks)) i 0
+  unfolding banksBytes
+  lesser-stand i l =
+      let e : lesserFrom + i ≡ balanceAt + suc i = omega arith in
+      ap (λ (n : ℕ). getD (reportOf a h) n 0) e ∙ bank-in a h (suc i)
+      ∙ List·getD-append (lesserBytes (h .banks)) (differencesBytes (h .banks)) 0 i
+      (omega (arith, words-length (λ b. b .lesser) (h .banks)))
 
-  -- both run through the words of all modules, the differences behind the lesser quantities
-  lesser-byte : (i : ℕ) → i < lesserLength
-      → getD (reportOf a h) (lesserFrom + lesserLength * m + i) 0 ≡ getD (lesserShown (h .banks) m) i 0
-  unfolding banksBytes lesserBytes
-  lesser-byte i j =
-      let e : lesserFrom + lesserLength * m + i ≡ balanceAt + suc (lesserLength * m + i) = omega arith in
-      ap (λ (n : ℕ). getD (reportOf a h) n 0) e ∙ bank-in a h (suc (lesserLength * m + i))
-      ∙ List·getD-append (lesserBytes (h .banks)) (differencesBytes (h .banks)) 0 (lesserLength * m + i)
-      (omega (arith, lesser-length (h .banks)))
-      ∙ parts-at lesserLength (lesserShown (h .banks)) (λ k. refl) moduleCount m i l j
+  differences-stand : (i : ℕ) → i < quantityLength * moduleCount
+      → getD (reportOf a h) (differencesFrom + i) 0 ≡ getD (differencesBytes (h .banks)) i 0
+  unfolding banksBytes
+  differences-stand i l =
+      let past = quantityLength * moduleCount in
+      let e : differencesFrom + i ≡ balanceAt + suc (past + i) = omega arith in
+      ap (λ (n : ℕ). getD (reportOf a h) n 0) e ∙ bank-in a h (suc (past + i))
+      ∙ getD-past (lesserBytes (h .banks)) (differencesBytes (h .banks)) past i (words-length (λ b. b .lesser) (h .banks))
 
-  difference-byte : (i : ℕ) → i < differenceLength
-      → getD (reportOf a h) (differencesFrom + differenceLength * m + i) 0 ≡ getD (differenceShown (h .banks) m) i 0
-  unfolding banksBytes differencesBytes
-  difference-byte i j =
-      let past = lesserLength * moduleCount in
-      let k = differenceLength * m + i in
-      let e : differencesFrom + differenceLength * m + i ≡ balanceAt + suc (past + k) = omega arith in
-      ap (λ (n : ℕ). getD (reportOf a h) n 0) e ∙ bank-in a h (suc (past + k))
-      ∙ getD-past (lesserBytes (h .banks)) (differencesBytes (h .banks)) past k (lesser-length (h .banks))
-      ∙ parts-at differenceLength (differenceShown (h .banks)) (λ k. refl) moduleCount m i l j
+  module _ (m : ℕ) (l : m < moduleCount) where
+    abbrev bank : Bank
+    bank = getD (h .banks) m noBank
 
-  pub lesser-at : bank .lesser < 65536 → two (reportOf a h) (lesserFrom + lesserLength * m) ≡ bank .lesser
-  lesser-at b =
-      two-stands (reportOf a h) (inTwo (bank .lesser)) (lesserFrom + lesserLength * m) lesser-byte ∙ two-inTwo (bank .lesser) b
+    -- where the words of all banks stand from a place on, that of one stands at its own
+    word-at : (word : Bank → ℕ) (from : ℕ)
+        → ((i : ℕ) → i < quantityLength * moduleCount → getD (reportOf a h) (from + i) 0 ≡ getD (wordsBytes word (h .banks)) i 0)
+        → word bank < 65536 → two (reportOf a h) (from + quantityLength * m) ≡ word bank
+    unfolding wordsBytes
+    word-at word from stand b =
+        two-stands (reportOf a h) (inTwo (word bank)) (from + quantityLength * m)
+        (λ i j.
+        ap (λ (n : ℕ). getD (reportOf a h) n 0) (add-assoc from (quantityLength * m) i)
+        ∙ stand (quantityLength * m + i) (omega arith)
+        ∙ parts-at quantityLength (wordShown word (h .banks)) (λ k. refl) moduleCount m i l j)
+        ∙ two-inTwo (word bank) b
 
-  pub difference-at : bank .difference < 65536 → two (reportOf a h) (differencesFrom + differenceLength * m) ≡ bank .difference
-  difference-at b =
-      two-stands (reportOf a h) (inTwo (bank .difference)) (differencesFrom + differenceLength * m) difference-byte
-      ∙ two-inTwo (bank .difference) b
+    pub lesser-at : bank .lesser < 65536 → two (reportOf a h) (lesserFrom + lesserLength * m) ≡ bank .lesser
+    lesser-at = word-at (λ b. b .lesser) lesserFrom lesser-stand
+
+    pub difference-at : bank .difference < 65536 → two (reportOf a h) (differencesFrom + differenceLength * m) ≡ bank .difference
+    difference-at = word-at (λ b. b .difference) differencesFrom differences-stand

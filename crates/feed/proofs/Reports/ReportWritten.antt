@@ -20,7 +20,7 @@ use Rattle.feed.specs.Inside.Showing.{shownOf}
 use Rattle.feed.proofs.Records.Tables.{table-at}
 use Rattle.feed.proofs.Reports.Parts.{parts-same}
 use Rattle.feed.proofs.Reports.Written.{put-next, next-written}
-use Rattle.feed.proofs.Reports.ReportLengths.{head-length, front-length, lesser-length}
+use Rattle.feed.proofs.Reports.ReportLengths.{head-length, front-length, words-length}
 
 -- the balance byte, x with it, behind it the lesser quantities, y after them, and the differences, z after these
 pub banks-written : (d x y z : List ℕ) (b : ℕ) (banks : List Bank) → reportLength ≤ length d → b ≡ balanceOf moduleCount banks
@@ -43,7 +43,7 @@ banks-written d x y z b banks l e ex ey ez =
     let lp : length p ≡ lesserFrom =
     length-append (take balanceAt d) (v ∷ []) ∙ omega (arith, length-take-le balanceAt d (omega arith)) in
     let fy : y ≡ (p ++ q) ++ drop differencesFrom d = next-written d p q x y lesserFrom differencesFrom lp (omega arith) fx ey in
-    let ly : length (p ++ q) ≡ differencesFrom = length-append p q ∙ omega (arith, lp, lesser-length banks) in
+    let ly : length (p ++ q) ≡ differencesFrom = length-append p q ∙ omega (arith, lp, words-length (λ b. b .lesser) banks) in
     next-written d (p ++ q) r y z differencesFrom reportLength ly (omega arith) fy ez
     ∙ ap (λ (t : List ℕ). t ++ rest) (append-assoc p q r ∙ append-assoc (take balanceAt d) (v ∷ []) (q ++ r))
     ∙ append-assoc (take balanceAt d) (v ∷ q ++ r) rest

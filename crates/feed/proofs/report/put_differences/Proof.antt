@@ -5,13 +5,13 @@ use Prim.Native.Nat.{_+_, _*_, _-_}
 use native.Mathlib.Omega.{arith}
 use Rattle.cycle.specs.Size.{moduleCount}
 use Rattle.feed.specs.Size.{differencesFrom, differenceLength}
-use Rattle.feed.specs.Report.{differenceShown, differencesBytes}
+use Rattle.feed.specs.Report.{wordShown, wordsBytes}
 use Rattle.feed.proofs.Reports.Written.{put-part, Putting, putting-none, putting-next, putting-end}
 use Rattle.feed.proofs.report.put_differences.Statement.{statement}
 use Rattle.feed.proofs.report.put_differences.Tie as tie
 
 abbrev Inv-loop : tie.InvT-loop
-Inv-loop out₀ banks m₀ out m = Putting out₀ differencesFrom differenceLength moduleCount (differenceShown banks) out m
+Inv-loop out₀ banks m₀ out m = Putting out₀ differencesFrom differenceLength moduleCount (wordShown (λ b. b .difference) banks) out m
 
 abbrev μ-loop : tie.MeasureT-loop
 μ-loop out₀ banks m₀ out m = moduleCount - m
@@ -23,17 +23,17 @@ loop-again c =
     let a = l .before .before .args in
     let y = c .before .before .put-two .last .0 in
     let e =
-    put-part (differenceShown (a .t2) (l .loop .m)) (l .loop .out) y (differencesFrom + differenceLength * l .loop .m)
+    put-part (wordShown (λ b. b .difference) (a .t2) (l .loop .m)) (l .loop .out) y (differencesFrom + differenceLength * l .loop .m)
     (differencesFrom + differenceLength * l .loop .m + differenceLength) refl (search needs) (c .before .before .put-two .ensures) in
-    putting-next (a .out .now) differencesFrom differenceLength moduleCount (differenceShown (a .t2)) (l .loop .out) y (l .loop .m)
-    (λ k. refl) (omega (arith, l .before .before .pre)) (l .loop .inv) (in-loop .loop-test .taken) e (c .before .out .given .1)
+    putting-next (a .out .now) differencesFrom differenceLength moduleCount (wordShown (λ b. b .difference) (a .t2)) (l .loop .out) y
+    (l .loop .m) (λ k. refl) (omega (arith, l .before .before .pre)) (l .loop .inv) (in-loop .loop-test .taken) e (c .before .out .given .1)
 
 returns : tie.Need-returns Inv-loop μ-loop
-unfolding differencesBytes
+unfolding wordsBytes
 returns c =
     let a = c .before .before .before .args in
-    putting-end (a .out .now) differencesFrom differenceLength moduleCount (differenceShown (a .t2)) _ _ (c .before .loop .inv)
-    (c .loop-test .left)
+    putting-end (a .out .now) differencesFrom differenceLength moduleCount (wordShown (λ b. b .difference) (a .t2)) _ _
+    (c .before .loop .inv) (c .loop-test .left)
 
 pub put-differences-spec : {M : Type 1} → statement M
 put-differences-spec =

@@ -5,13 +5,13 @@ use Prim.Native.Nat.{_+_, _*_, _-_}
 use native.Mathlib.Omega.{arith}
 use Rattle.cycle.specs.Size.{moduleCount}
 use Rattle.feed.specs.Size.{lesserFrom, lesserLength}
-use Rattle.feed.specs.Report.{lesserShown, lesserBytes}
+use Rattle.feed.specs.Report.{wordShown, wordsBytes}
 use Rattle.feed.proofs.Reports.Written.{put-part, Putting, putting-none, putting-next, putting-end}
 use Rattle.feed.proofs.report.put_lesser.Statement.{statement}
 use Rattle.feed.proofs.report.put_lesser.Tie as tie
 
 abbrev Inv-loop : tie.InvT-loop
-Inv-loop out₀ banks m₀ out m = Putting out₀ lesserFrom lesserLength moduleCount (lesserShown banks) out m
+Inv-loop out₀ banks m₀ out m = Putting out₀ lesserFrom lesserLength moduleCount (wordShown (λ b. b .lesser) banks) out m
 
 abbrev μ-loop : tie.MeasureT-loop
 μ-loop out₀ banks m₀ out m = moduleCount - m
@@ -23,16 +23,16 @@ loop-again c =
     let a = l .before .before .args in
     let y = c .before .before .put-two .last .0 in
     let e =
-    put-part (lesserShown (a .t2) (l .loop .m)) (l .loop .out) y (lesserFrom + lesserLength * l .loop .m)
+    put-part (wordShown (λ b. b .lesser) (a .t2) (l .loop .m)) (l .loop .out) y (lesserFrom + lesserLength * l .loop .m)
     (lesserFrom + lesserLength * l .loop .m + lesserLength) refl (search needs) (c .before .before .put-two .ensures) in
-    putting-next (a .out .now) lesserFrom lesserLength moduleCount (lesserShown (a .t2)) (l .loop .out) y (l .loop .m) (λ k. refl)
+    putting-next (a .out .now) lesserFrom lesserLength moduleCount (wordShown (λ b. b .lesser) (a .t2)) (l .loop .out) y (l .loop .m) (λ k. refl)
     (omega (arith, l .before .before .pre)) (l .loop .inv) (in-loop .loop-test .taken) e (c .before .out .given .1)
 
 returns : tie.Need-returns Inv-loop μ-loop
-unfolding lesserBytes
+unfolding wordsBytes
 returns c =
     let a = c .before .before .before .args in
-    putting-end (a .out .now) lesserFrom lesserLength moduleCount (lesserShown (a .t2)) _ _ (c .before .loop .inv) (c .loop-test .left)
+    putting-end (a .out .now) lesserFrom lesserLength moduleCount (wordShown (λ b. b .lesser) (a .t2)) _ _ (c .before .loop .inv) (c .loop-test .left)
 
 pub put-lesser-spec : {M : Type 1} → statement M
 put-lesser-spec =
