@@ -53,10 +53,7 @@ words-bytes word banks = parts-bytes (wordShown word banks) (λ m. two-bytes (wo
 
 banks-bytes : (banks : List Bank) → Bytes (banksBytes banks)
 unfolding banksBytes
-banks-bytes banks = (
-  omega arith,
-  both (lesserBytes banks) (differencesBytes banks) (words-bytes (λ b. b .lesser) banks) (words-bytes (λ b. b .difference) banks),
-)
+banks-bytes banks = (omega arith, both (lesserBytes banks) (differencesBytes banks) (words-bytes _ banks) (words-bytes _ banks))
 
 head-bytes : (a : Answer) (n : ℕ) → Bytes (headOf (numberOf a) n)
 unfolding headOf

@@ -38,7 +38,7 @@ unfolding banksBytes
 banks-length banks =
     ap suc
     (length-append (lesserBytes banks) (differencesBytes banks)
-    ∙ ap₂ (λ (l d : ℕ). l + d) (words-length (λ b. b .lesser) banks) (words-length (λ b. b .difference) banks))
+    ∙ ap₂ (λ (l d : ℕ). l + d) (words-length _ banks) (words-length _ banks))
 
 -- what stands before the balance byte
 pub front-length : (answer n : ℕ) (fail close : ℕ → ℕ) → length (headOf answer n ++ stringsBytes fail close) ≡ balanceAt

@@ -25,15 +25,14 @@ loop-again c =
     let e =
     put-part (wordShown (λ b. b .difference) (a .t2) (l .loop .m)) (l .loop .out) y (differencesFrom + differenceLength * l .loop .m)
     (differencesFrom + differenceLength * l .loop .m + differenceLength) refl (search needs) (c .before .before .put-two .ensures) in
-    putting-next (a .out .now) differencesFrom differenceLength moduleCount (wordShown (λ b. b .difference) (a .t2)) (l .loop .out) y
-    (l .loop .m) (λ k. refl) (omega (arith, l .before .before .pre)) (l .loop .inv) (in-loop .loop-test .taken) e (c .before .out .given .1)
+    putting-next (a .out .now) differencesFrom differenceLength moduleCount _ (l .loop .out) y (l .loop .m) (λ k. refl)
+    (omega (arith, l .before .before .pre)) (l .loop .inv) (in-loop .loop-test .taken) e (c .before .out .given .1)
 
 returns : tie.Need-returns Inv-loop μ-loop
 unfolding wordsBytes
 returns c =
     let a = c .before .before .before .args in
-    putting-end (a .out .now) differencesFrom differenceLength moduleCount (wordShown (λ b. b .difference) (a .t2)) _ _
-    (c .before .loop .inv) (c .loop-test .left)
+    putting-end (a .out .now) differencesFrom differenceLength moduleCount _ _ _ (c .before .loop .inv) (c .loop-test .left)
 
 pub put-differences-spec : {M : Type 1} → statement M
 put-differences-spec =
