@@ -3,6 +3,7 @@ pub mod Numbers
 pub mod Judgements
 pub mod Each
 pub mod Quiet
+pub mod CalmHalls
 pub mod Halves
 pub mod Loops
 pub mod Maps

@@ -9,6 +9,7 @@ pub mod Words
 pub mod Banks
 pub mod Records
 pub mod Hall
+pub mod Calm
 pub mod Close
 pub mod Views
 pub mod BothWays

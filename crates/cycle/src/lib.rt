@@ -3,6 +3,7 @@
 // words are, bit by bit, what the rules say jet by jet is proved in proofs/.
 pub mod answer;
 pub mod banks;
+pub mod calm;
 pub mod hall;
 pub mod jet;
 pub mod leak;

@@ -2,6 +2,7 @@
 ghost use mathlib.Core.Path.{_≡_};
 ghost use Rattle.cycle.specs.Size.{stringCount, manifoldCount};
 ghost use Rattle.cycle.specs.Map.{noMasks, mapped, overlap, refused};
+ghost use Rattle.cycle.specs.Calm.{mappedWords};
 use crate::size::MANIFOLDS;
 use crate::size::STRINGS;
 
@@ -48,6 +49,20 @@ impl Masks {
         }
         found
     }
+}
+
+// Each string's mapped jets.
+pub fn mapped_words(masks: [Masks; STRINGS]) -> [u32; STRINGS]
+    ensures { λ r. ⌜ r ≡ mappedWords masks ⌝ }
+{
+    let mut words = [0u32; STRINGS];
+    let mut s: usize = 0;
+    while s < STRINGS {
+        let m = masks[s];
+        words[s] = m.mapped();
+        s += 1;
+    }
+    words
 }
 
 // Is the map refused: does some string have a jet in two masks?

@@ -3,6 +3,7 @@ ghost use mathlib.Core.Path.{_≡_};
 ghost use Prim.Native.Nat.{_<_};
 ghost use Rattle.cycle.specs.Numbers.{distance, isMajor, missedMajor, following, judged};
 ghost use Rattle.cycle.specs.Hall.{unlessBothWays};
+ghost use Rattle.cycle.specs.Calm.{follows};
 use crate::answer::Answer;
 use crate::size::LAST_COUNT;
 use crate::size::MAJOR_EVERY;
@@ -105,4 +106,17 @@ pub fn judged(n: u32, wire: u16, major: bool) -> Verdict
         2..=32767 => following(n, d, true, major),
         32768..=65535 => Verdict::Refuses(Answer::Stale),
     }
+}
+
+// Is this the wire cycle of the next number, and the kind right? Then the verdict takes the record and finds no gap.
+pub fn follows(n: u32, wire: u16, major: bool) -> bool
+    ensures { λ r. ⌜ r ≡ follows n wire major ⌝ }
+{
+    if LAST_COUNT <= n {
+        return false;
+    }
+    let next = n + 1;
+    let right = is_major(next);
+    let wrong = (right & !major) | (!right & major);
+    (wire == (next % 65536) as u16) & !wrong
 }

@@ -1,0 +1,44 @@
+// Calm: strings in which nothing is under way, and samples that find nothing. A record of such samples leaves such strings as they are, so
+// that whoever has told both apart need not step them (proofs/CalmHalls).
+ghost use mathlib.Core.Path.{_≡_};
+ghost use Rattle.cycle.specs.Size.{stringCount};
+ghost use Rattle.cycle.specs.Calm.{calm, allCalm, quiet};
+use crate::size::STRINGS;
+use crate::string::StringState;
+use crate::values::Sample;
+use bits::without;
+
+impl StringState {
+    // Is nothing under way?
+    fn is_calm(self) -> bool
+        ensures { λ r. ⌜ r ≡ calm self ⌝ }
+    {
+        let off = self.off;
+        let over = self.over;
+        let fail = self.standing.fail;
+        let settled = fail == (without(fail, over.reenable) | over.inhibit);
+        !self.lost & ((off.newest == 0) & ((off.older == 0) & ((off.oldest == 0) & settled)))
+    }
+
+    // Does the sample find nothing, where these jets are mapped?
+    pub fn is_quiet(self, mapped: u32, sample: Sample) -> bool
+        ensures { λ r. ⌜ r ≡ quiet mapped sample self ⌝ }
+    {
+        let unmoved = self.standing.valves == sample.valves as u32;
+        (without(mapped & sample.commanded, sample.pressure) == 0) & unmoved
+    }
+}
+
+// Is nothing under way in any string?
+pub fn all_calm(strings: [StringState; STRINGS]) -> bool
+    ensures { λ r. ⌜ r ≡ allCalm stringCount strings ⌝ }
+{
+    let mut found = true;
+    let mut s: usize = 0;
+    while s < STRINGS {
+        let string = strings[s];
+        found = found & string.is_calm();
+        s += 1;
+    }
+    found
+}
