@@ -10,6 +10,7 @@ use native.Mathlib.Omega.{arith}
 use lib.Bits.{bitAnd, bitOr, and-zero-l, or-zero-r}
 use lib.Dec.{eqb, ltb}
 use borrow.Author.Tests.{eqb-true, ltb-true, le-ltb}
+use lib.ListN.{getD, replicate}
 use lib.Seq.{set-getD}
 use Rattle.bits.specs.Bit.{without, any, every}
 use Rattle.bits.proofs.Yes.{and-left, and-right, or-neither, not-true}
@@ -21,16 +22,17 @@ use Rattle.cycle.specs.Words.{withFail, withOff, offFailure}
 use Rattle.cycle.specs.Records.{minor}
 use Rattle.cycle.specs.Hall.{pastString, sampleOf, stringOf, minorStrings, taken, unlessBothWays, verdictOn, steppedBy, stepped}
 use Rattle.cycle.specs.Inside.Quiet.{busy, someBusy, quietCycle, quietStrings}
-use Rattle.cycle.specs.Calm.{calm, allCalm, quiet, follows, allQuiet, onward}
+use Rattle.cycle.specs.Calm.{calm, allCalm, quiet, follows, mappedWords, allQuiet, onward}
 use Rattle.cycle.specs.declared.answer.Answer.the-variants.{Taken}
 use Rattle.cycle.specs.declared.hall.Hall.{Hall}
+use Rattle.cycle.specs.declared.map.Masks.{Masks}
 use Rattle.cycle.specs.declared.number.Next.{Next}
 use Rattle.cycle.specs.declared.number.Verdict.the-variants.{Takes}
 use Rattle.cycle.specs.declared.number.Verdict.{Verdict}
 use Rattle.cycle.specs.declared.string.StringState.{StringState}
 use Rattle.cycle.specs.declared.values.Minor.{Minor}
 use Rattle.cycle.specs.declared.values.Sample.{Sample}
-use Rattle.cycle.proofs.Each.{each-same-at}
+use Rattle.cycle.proofs.Each.{each-at, each-same-at}
 use Rattle.cycle.proofs.Numbers.{judged-follows, follows-right}
 use Rattle.cycle.proofs.Quiet.{told-quiet}
 
@@ -157,3 +159,9 @@ module _ (r : Minor) (h : Hall) (c : allCalm stringCount (h .strings) ≡ true) 
       let v : verdictOn (h .n) (h .masks) (minor r) ≡ Takes (nextOf (h .n)) = ap (unlessBothWays false) (follows-judged (h .n) (r .wire) false f) in
       ap (λ (y : Verdict). steppedBy y (minor r) h) v
       ∙ (λ i. record { answer = Taken; hall = record { n = h .n + 1; masks = h .masks; strings = strings-calm i; banks = h .banks } })
+
+-- ---- the array of mapped jets
+
+pub mapped-at : (masks : List Masks) (i : ℕ) → i < stringCount → getD (mappedWords masks) i 0 ≡ mapped manifoldCount (masksOf masks i)
+unfolding mappedWords
+mapped-at masks i b = each-at (λ s x. mapped manifoldCount (masksOf masks s)) 0 (replicate stringCount 0) stringCount i b (omega arith)

@@ -1,6 +1,6 @@
 // The answers of document 01's table, and 7 of document 02, order 4.
 ghost use mathlib.Core.Path.{_≡_};
-ghost use Rattle.cycle.specs.Answers.{numberOf};
+ghost use Rattle.cycle.specs.Answers.{isTaken, numberOf};
 
 pub enum Answer {
     Taken,
@@ -30,6 +30,23 @@ impl Answer {
             Answer::MapRefused => 6,
             Answer::BothWays => 7,
             Answer::NothingSettled => 255,
+        }
+    }
+
+    // Is the monitor stepped?
+    pub fn is_taken(self) -> bool
+        ensures { λ r. ⌜ r ≡ isTaken self ⌝ }
+    {
+        match self {
+            Answer::Taken => true,
+            Answer::Stale => false,
+            Answer::Repeat => false,
+            Answer::CountEnded => false,
+            Answer::WrongKind => false,
+            Answer::OutboxShort => false,
+            Answer::MapRefused => false,
+            Answer::BothWays => false,
+            Answer::NothingSettled => false,
         }
     }
 }

@@ -1,6 +1,7 @@
 -- Calls: the step, one call and its bounds, starting, and the run that a program repeats. Assumes nothing.
 pub mod Steps
 pub mod Turning
+pub mod Calms
 pub mod Calling
 pub mod CallBounds
 pub mod CallCases
@@ -13,6 +14,7 @@ pub mod Running
 pub mod NoLongWait
 pub mod NextRecord
 pub mod WholeCalls
+pub mod CalmRuns
 pub mod HandedIn
 pub mod HandingOut
 pub mod Growing

@@ -20,3 +20,4 @@ pub mod ReliedOn
 pub mod ClosedFailed
 pub mod RequestsHeeded
 pub mod Tenants
+pub mod Repeats

@@ -2,6 +2,7 @@
 -- said without it, and the proofs tie the two. Assumes nothing.
 pub mod Finding
 pub mod Turn
+pub mod Calm
 pub mod LowFirst
 -- what a report shows of a hall, as values; the laws say that its report is the hall's
 pub mod Showing

@@ -9,6 +9,8 @@ ghost use Rattle.feed.specs.Step.{isWhole, stepOf};
 ghost use Rattle.feed.specs.Call.{call, startedOver, runs, Ran-by};
 ghost use Rattle.feed.specs.Masks.{startedFrom};
 ghost use Rattle.feed.specs.Inside.Turn.{foundIn, leftCount, leftBytes, Turn};
+use crate::calm::calm_after;
+use crate::calm::calm_turn;
 use crate::masks::masks_of;
 use crate::reader::clear;
 use crate::reader::find;
@@ -16,6 +18,7 @@ use crate::reader::held_count;
 use crate::reader::shift;
 use crate::report::write_report;
 use crate::size::MAP;
+use crate::size::MINOR_LENGTH;
 use crate::size::OUTBOX_NEEDED;
 use crate::size::REPORT;
 use crate::size::STORE;
@@ -235,7 +238,15 @@ impl Monitor {
         clear(&mut b[count..]);
         let mut used: usize = 0;
         let mut written: usize = 0;
+        let mut calm = false;
+        let mut mapped = [0u32; STRINGS];
         while written + OUTBOX_NEEDED <= out.len() {
+            if calm && calm_turn(hall, mapped, piece, used, &mut out[written - REPORT..]) {
+                hall.n = hall.n + 1;
+                used += MINOR_LENGTH;
+                written += REPORT;
+                continue;
+            }
             let t = turn(hall, &mut b[..], count, piece, used, &mut out[written..]);
             let next = t.hall;
             hall = next;
@@ -254,6 +265,11 @@ impl Monitor {
                     monitor: monitor,
                 };
             }
+            let answer = t.answer;
+            let after = calm_after(answer, count, hall);
+            let words = after.mapped;
+            calm = after.yes;
+            mapped = words;
             written += REPORT;
         }
         let monitor = Monitor {

@@ -120,7 +120,7 @@ fn quantities_right(s: &[u8]) -> bool
 }
 
 // Is the full minor record at the front good?
-fn good_minor(s: &[u8]) -> bool
+pub(crate) fn good_minor(s: &[u8]) -> bool
     requires { ⌜ minorLength ≤ length (now s) ⌝ }
     ensures { λ r. ⌜ r ≡ goodMinor (now (s .entry)) ⌝ }
 {

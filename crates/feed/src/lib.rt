@@ -3,6 +3,7 @@
 // has the laws.
 pub mod bytes;
 pub mod call;
+mod calm;
 pub mod format;
 pub mod hand;
 pub mod masks;

@@ -37,7 +37,7 @@ use cycle::values::Sample;
 use cycle::values::Temperatures;
 
 // One string's sample, from `i` on.
-fn sample_at(s: &[u8], i: usize) -> Sample
+pub(crate) fn sample_at(s: &[u8], i: usize) -> Sample
     requires { ⌜ i + sampleLength ≤ length (now s) ⌝ }
     ensures { λ r. ⌜ r ≡ sampleAt (now (s .entry)) i ⌝ }
 {

@@ -1,0 +1,121 @@
+-- A calm record is settled by a call as the shortcut says: it is taken, only the number changes, and its report is the one before with
+-- another number. Assumes nothing.
+use mathlib.Core.Path.{_≡_, refl, sym, ap, _∙_}
+use mathlib.Core.Bool.{Bool, true, false, cond, _&&_}
+use mathlib.Core.List.{List, [], _++_}
+use mathlib.Core.Logic.{inl}
+use Prim.Native.Nat.{ℕ, zero, suc, _+_, _-_, _*_, _<_, _≤_}
+use native.Mathlib.Nat.{add-sub-cancel-left}
+use native.Mathlib.Omega.{arith}
+use borrow.Author.Tests.{eqb-true, ltb-true, ltb-false, lt-ltb, le-ltb}
+use lib.Dec.{eqb, ltb}
+use lib.ListN.{length, getD, take, drop}
+use Rattle.bits.proofs.Yes.{and-left, and-right, not-both}
+use Rattle.bits.specs.Bit.{every}
+use Rattle.cycle.specs.Size.{stringCount, manifoldCount, lastCount}
+use Rattle.cycle.specs.Map.{masksOf, mapped}
+use Rattle.cycle.specs.Hall.{noSample, pastString, stringOf, stepped}
+use Rattle.cycle.specs.Records.{minor, major}
+use Rattle.cycle.specs.Calm.{quiet, allCalm, mappedWords, follows, allQuiet, onward}
+use Rattle.cycle.specs.declared.answer.Answer.the-variants.{Taken}
+use Rattle.cycle.specs.declared.hall.Hall.{Hall}
+use Rattle.cycle.specs.declared.string.StringState.{StringState}
+use Rattle.cycle.proofs.CalmHalls.{mapped-at, minor-passes}
+use Rattle.feed.specs.Size.{markByte, minorMark, majorMark, minorLength, wireAt, pathAt, samplesFrom, sampleLength, reservedFrom}
+use Rattle.feed.specs.Bytes.{two}
+use Rattle.feed.specs.Format.{sumOf, sumRight, reservedZero, goodMinor}
+use Rattle.feed.specs.Good.{WholeRecord}
+use Rattle.feed.specs.Values.{sampleAt, samplesOf, minorOf, majorOf, valuesOf}
+use Rattle.feed.specs.Inside.Calm.{passes, passesAt}
+use Rattle.feed.proofs.Records.Tables.{table-at}
+
+-- ---- the samples of a record
+
+every-same : (n : ℕ) (f g : ℕ → Bool) → ((i : ℕ) → i < n → f i ≡ g i) → every n f ≡ every n g
+unfolding every
+every-same zero f g e = refl
+every-same (suc n) f g e = rw (every-same n f g (λ i b. e i (omega arith)), e n (omega arith))
+
+-- string s finds nothing, by the bytes
+abbrev pub quietAt : List ℕ → List ℕ → List StringState → ℕ → Bool
+quietAt l jets strings s = quiet (getD jets s 0) (sampleAt l (samplesFrom + sampleLength * s)) (getD strings s pastString)
+
+pub all-quiet-told : (l jets : List ℕ) (h : Hall) → jets ≡ mappedWords (h .masks)
+    → (eqb (getD l pathAt 0) 0 && every stringCount (quietAt l jets (h .strings))) ≡ allQuiet (minorOf l) h
+unfolding allQuiet minorOf samplesOf
+all-quiet-told l jets h e =
+    ap (λ (b : Bool). eqb (getD l pathAt 0) 0 && b)
+    (every-same stringCount _ _
+    (λ s b.
+    ap (λ (j : List ℕ). quiet (getD j s 0) (sampleAt l (samplesFrom + sampleLength * s)) (stringOf h s)) e
+    ∙ ap (λ (j : ℕ). quiet j (sampleAt l (samplesFrom + sampleLength * s)) (stringOf h s)) (mapped-at (h .masks) s b)
+    ∙ ap (λ x. quiet (mapped manifoldCount (masksOf (h .masks) s)) x (stringOf h s)) (sym (table-at (λ k. sampleAt l (samplesFrom + sampleLength * k)) noSample stringCount s b))))
+
+-- ---- what a record that passes is
+
+module _ (h : Hall) (l : List ℕ) (p : passes h l ≡ true) where
+  marked : (getD l 0 0 ≡ markByte) × (getD l 1 0 ≡ minorMark)
+  unfolding passes
+  marked =
+      let q = and-right (eqb (getD l 0 0) markByte) _ p in
+      (eqb-true (getD l 0 0) markByte (and-left _ _ p), eqb-true (getD l 1 0) minorMark (and-left _ _ q))
+
+  rest : (follows (h .n) (two l wireAt) false && (allQuiet (minorOf l) h && goodMinor l)) ≡ true
+  unfolding passes
+  rest = and-right (eqb (getD l 1 0) minorMark) _ (and-right (eqb (getD l 0 0) markByte) _ p)
+
+  next : follows (h .n) (two l wireAt) false ≡ true
+  next = and-left (follows (h .n) (two l wireAt) false) _ rest
+
+  finds-none : allQuiet (minorOf l) h ≡ true
+  finds-none = and-left (allQuiet (minorOf l) h) _ (and-right (follows (h .n) (two l wireAt) false) _ rest)
+
+  good : goodMinor l ≡ true
+  good = and-right (allQuiet (minorOf l) h) _ (and-right (follows (h .n) (two l wireAt) false) _ rest)
+
+  -- the number can go up
+  pub passes-below : h .n < lastCount
+  unfolding follows
+  passes-below = ltb-true (h .n) lastCount (and-left (ltb (h .n) lastCount) _ next)
+
+  pub passes-whole : length l ≡ minorLength → WholeRecord l
+  unfolding goodMinor reservedZero sumOf
+  passes-whole long =
+      let sum = and-left (sumRight minorLength l) _ good in
+      let reserved = and-right (sumRight minorLength l) _ good in
+      inl (record {
+        long = long;
+        mark = marked;
+        sum = rw long (eqb-true (two l (minorLength - 2)) _ sum);
+        reserved = ltb-true (getD l pathAt 0) reservedFrom reserved;
+      })
+
+  -- it is taken, and changes the number alone
+  pub passes-steps : allCalm stringCount (h .strings) ≡ true → stepped (valuesOf l) h ≡ record { answer = Taken; hall = onward h }
+  unfolding valuesOf minorOf
+  passes-steps c =
+      let kind : eqb (getD l 1 0) majorMark ≡ false = ap (λ (b : ℕ). eqb b majorMark) (marked .1) in
+      ap (λ (b : Bool). stepped (cond b (major (majorOf l)) (minor (minorOf l))) h) kind ∙ minor-passes (minorOf l) h c finds-none next
+
+-- ---- in the piece
+
+module _ (h : Hall) (from : ℕ) (piece : List ℕ) where
+  pub passes-short : length piece - from < minorLength → passesAt h from piece ≡ false
+  passes-short l = rw (lt-ltb (length piece - from) minorLength l)
+
+  -- by the part that is looked at
+  pub passes-part : minorLength ≤ length piece - from → (b : Bool) → b ≡ passes h (take (from + minorLength - from) (drop from piece))
+      → passesAt h from piece ≡ b
+  passes-part l b e =
+      rw (le-ltb (length piece - from) minorLength l)
+      (ap (λ (n : ℕ). passes h (take n (drop from piece))) (sym (add-sub-cancel-left from minorLength)) ∙ sym e)
+
+  -- the piece has that many bytes, and they pass
+  pub passes-long : passesAt h from piece ≡ true
+      → (minorLength ≤ length piece - from) × (passes h (take minorLength (drop from piece)) ≡ true)
+  passes-long e = by (ltb (length piece - from) minorLength) refl e
+    where
+      by : (t : Bool) → ltb (length piece - from) minorLength ≡ t → cond t false (passes h (take minorLength (drop from piece))) ≡ true
+          → (minorLength ≤ length piece - from) × (passes h (take minorLength (drop from piece)) ≡ true)
+      by true q z = not-both false z refl
+      by false q z = (ltb-false (length piece - from) minorLength q, z)

@@ -1,0 +1,71 @@
+-- `feed::calm::calm_turn` meets its contract. Assumes nothing.
+use borrow.Author.Needs.{needs}
+use mathlib.Core.Path.{_≡_, refl, sym, ap, _∙_}
+use mathlib.Core.Bool.{Bool, true, false}
+use mathlib.Core.List.{List, _++_, append-assoc}
+use Prim.Native.Nat.{ℕ, _+_, _-_}
+use native.Mathlib.Omega.{arith}
+use lib.ListN.{length, take, drop}
+use lib.Seq.{length-take-le, take-take}
+use Rattle.bits.proofs.Yes.{not-true, not-no}
+use Rattle.feed.specs.Size.{minorLength, reportLength}
+use Rattle.feed.specs.Inside.Calm.{passes, passesAt, renumbered}
+use Rattle.feed.proofs.Calls.Calms.{passes-below, passes-short, passes-part}
+use Rattle.feed.proofs.calm.calm_turn.Statement.{statement}
+use Rattle.feed.proofs.calm.calm_turn.Tie as tie
+
+returns : tie.Need-returns
+returns c =
+    let a = c .before .before .before .args in
+    rw (passes-short (a .hall) (a .from) (a .piece .now) (c .if1 .taken)) (refl, refl)
+
+-- what the test of the record says
+module _ (c : tie.After-passes) where
+  abbrev start : tie.Start
+  start = c .before .before .before .before .before
+
+  told : (b : Bool) → c .passes .result ≡ b → passesAt (start .args .hall) (start .args .from) (start .args .piece .now) ≡ b
+  told b e =
+      passes-part (start .args .hall) (start .args .from) (start .args .piece .now) (omega (arith, c .before .before .if1 .left)) b
+      (sym e ∙ c .passes .ensures)
+
+returns-2 : tie.Need-returns-2
+returns-2 c = rw (told (c .before) false (not-true (c .before .passes .result) (c .if2 .taken))) (refl, refl)
+
+slice-aggregate-tell-again : tie.Need-slice-aggregate-tell-again
+slice-aggregate-tell-again c =
+    let start = c .before .before .before .before .before .before .before in
+    sym (length-take-le (reportLength + reportLength) (start .args .out .now) (start .pre .0 .1))
+
+add-tell-again-2 : tie.Need-add-tell-again-2
+add-tell-again-2 c =
+    let at-passes = c .before .before .before in
+    let n = passes-below _ _ (sym (at-passes .passes .ensures) ∙ not-no (at-passes .passes .result) (c .before .before .if2 .left)) in
+    record { fits = omega arith }
+
+tell-again-requires : tie.Need-tell-again-requires
+tell-again-requires c κs =
+    let start = c .before .before .before .before .before .before .before .before in
+    length-take-le (reportLength + reportLength) (start .args .out .now) (start .pre .0 .1)
+
+returns-3 : tie.Need-returns-3
+returns-3 c =
+    let at-passes = c .before .before .before .before .before .before in
+    let a = start at-passes .args in
+    let out = a .out .now in
+    let both = reportLength + reportLength in
+    let t = told at-passes true (not-no (at-passes .passes .result) (c .before .before .before .before .before .if2 .left)) in
+    let front : take reportLength (take both out) ≡ take reportLength out = take-take reportLength both out (omega arith) in
+    rw t (
+      refl,
+      ap (λ (l : List ℕ). l ++ drop both out)
+          (c .before .before .tell-again .ensures ∙ ap (λ (r : List ℕ). r ++ renumbered (a .hall .n + 1) r) front)
+          ∙ append-assoc (take reportLength out) (renumbered (a .hall .n + 1) (take reportLength out)) (drop both out),
+    )
+
+pub calm-turn-spec : {M : Type 1} → statement M
+calm-turn-spec =
+    tie.close
+    (tie.spec (λ c. search needs) returns (λ c. search needs) (λ c. search needs) (λ c. search needs) (λ c. search needs)
+    (λ c κs. search needs) returns-2 (λ c. search needs) (λ c. search needs) slice-aggregate-tell-again add-tell-again-2
+    tell-again-requires (λ c. search needs) returns-3)

@@ -1,0 +1,43 @@
+-- Calm records: bytes that change nothing but the number, and their reports. That this is what a call does is proved (proofs/Calls/Calms).
+-- Assumes nothing.
+use mathlib.Core.Bool.{Bool, true, false, cond, _&&_}
+use mathlib.Core.List.{List, _++_}
+use Prim.Native.Nat.{ℕ, _+_, _-_}
+use lib.Dec.{eqb, ltb}
+use lib.ListN.{length, getD, take, drop, replicate}
+use Rattle.cycle.specs.Size.{stringCount}
+use Rattle.cycle.specs.Answers.{isTaken}
+use Rattle.cycle.specs.Calm.{allCalm, mappedWords, follows, allQuiet}
+use Rattle.cycle.specs.declared.answer.Answer.{Answer}
+use Rattle.cycle.specs.declared.hall.Hall.{Hall}
+use Rattle.feed.specs.Size.{markByte, minorMark, minorLength, wireAt, countAt, stringsFrom, reportLength}
+use Rattle.feed.specs.Bytes.{two, inFour}
+use Rattle.feed.specs.Format.{goodMinor}
+use Rattle.feed.specs.Values.{minorOf}
+use Rattle.feed.specs.declared.calm.Calm.{Calm}
+
+-- calm records can follow a taken one that left nothing in the store and nothing under way
+unfoldable pub calmAfter : Answer → ℕ → Hall → Calm
+calmAfter a count h =
+    cond (isTaken a && (eqb count 0 && allCalm stringCount (h .strings))) (record { yes = true; mapped = mappedWords (h .masks) })
+    (record { yes = false; mapped = replicate stringCount 0 })
+
+-- the bytes are a good minor record of the next cycle that finds nothing
+unfoldable pub passes : Hall → List ℕ → Bool
+passes h l =
+    eqb (getD l 0 0) markByte
+    && (eqb (getD l 1 0) minorMark && (follows (h .n) (two l wireAt) false && (allQuiet (minorOf l) h && goodMinor l)))
+
+-- the piece has such a record from place `from` on
+abbrev pub passesAt : Hall → ℕ → List ℕ → Bool
+passesAt h from piece = cond (ltb (length piece - from) minorLength) false (passes h (take minorLength (drop from piece)))
+
+-- a report with another number
+unfoldable pub renumbered : ℕ → List ℕ → List ℕ
+renumbered n report = take countAt report ++ (inFour n ++ drop stringsFrom report)
+
+-- an outbox that begins with a report: behind it the same one with another number
+abbrev pub toldAgain : ℕ → List ℕ → List ℕ
+toldAgain n out =
+    let report = take reportLength out in
+    report ++ (renumbered n report ++ drop (reportLength + reportLength) out)

@@ -1,0 +1,143 @@
+// Calm records: where nothing is under way, a minor record of the next cycle that finds nothing changes the number alone. It is told apart
+// by its bytes, where they lie; no string is stepped, and its report is the one before with another number.
+ghost use mathlib.Core.Path.{_≡_};
+ghost use mathlib.Core.Bool.{cond};
+ghost use mathlib.Core.List.{_++_};
+ghost use Prim.Native.Nat.{_+_, _≤_};
+ghost use lib.ListN.{length, take};
+ghost use Rattle.cycle.specs.Calm.{mappedWords, allQuiet};
+ghost use Rattle.feed.specs.Size.{minorLength, reportLength};
+ghost use Rattle.feed.specs.Values.{minorOf};
+ghost use Rattle.feed.specs.Inside.Calm.{passes, passesAt, renumbered, toldAgain, calmAfter};
+use crate::bytes::put_four;
+use crate::bytes::two_at;
+use crate::format::good_minor;
+use crate::size::COUNT_AT;
+use crate::size::MARK;
+use crate::size::MINOR_LENGTH;
+use crate::size::MINOR_MARK;
+use crate::size::PATH_AT;
+use crate::size::REPORT;
+use crate::size::SAMPLE_LENGTH;
+use crate::size::SAMPLES_FROM;
+use crate::size::STRINGS_FROM;
+use crate::size::WIRE_AT;
+use crate::values::sample_at;
+use cycle::answer::Answer;
+use cycle::calm::all_calm;
+use cycle::hall::Hall;
+use cycle::map::mapped_words;
+use cycle::number::follows;
+use cycle::size::STRINGS;
+
+// Whether calm records can follow, and then each string's mapped jets.
+pub struct Calm {
+    pub yes: bool,
+    pub mapped: [u32; STRINGS],
+}
+
+// After a record with this answer, that left `count` bytes in the store and this hall.
+pub(crate) fn calm_after(answer: Answer, count: usize, hall: Hall) -> Calm
+    ensures { λ r. ⌜ r ≡ calmAfter answer count hall ⌝ }
+{
+    let strings = hall.strings;
+    if answer.is_taken() & ((count == 0) & all_calm(strings)) {
+        let masks = hall.masks;
+        let words = mapped_words(masks);
+        Calm {
+            yes: true,
+            mapped: words,
+        }
+    } else {
+        let none = [0u32; STRINGS];
+        Calm {
+            yes: false,
+            mapped: none,
+        }
+    }
+}
+
+// Do the record's samples find nothing?
+fn all_quiet(hall: Hall, mapped: [u32; STRINGS], s: &[u8]) -> bool
+    requires { ⌜ length (now s) ≡ minorLength ⌝ }
+    requires { ⌜ mapped ≡ mappedWords (hall .masks) ⌝ }
+    ensures { λ r. ⌜ r ≡ allQuiet (minorOf (now (s .entry))) hall ⌝ }
+{
+    let strings = hall.strings;
+    let mut found = true;
+    let mut k: usize = 0;
+    while k < STRINGS {
+        let string = strings[k];
+        let sample = sample_at(s, SAMPLES_FROM + SAMPLE_LENGTH * k);
+        found = found & string.is_quiet(mapped[k], sample);
+        k += 1;
+    }
+    (s[PATH_AT] == 0) & found
+}
+
+// Are the bytes a good minor record of the next cycle that finds nothing? The sum comes last: it is the dearest test.
+fn passes(hall: Hall, mapped: [u32; STRINGS], s: &[u8]) -> bool
+    requires { ⌜ length (now s) ≡ minorLength ⌝ }
+    requires { ⌜ mapped ≡ mappedWords (hall .masks) ⌝ }
+    ensures { λ r. ⌜ r ≡ passes hall (now (s .entry)) ⌝ }
+{
+    if s[0] != MARK {
+        return false;
+    }
+    if s[1] != MINOR_MARK {
+        return false;
+    }
+    if !follows(hall.n, two_at(s, WIRE_AT), false) {
+        return false;
+    }
+    if !all_quiet(hall, mapped, s) {
+        return false;
+    }
+    good_minor(s)
+}
+
+// The report in the first half is written again into the second.
+fn repeat(s: &mut [u8])
+    requires { ⌜ length (now s) ≡ reportLength + reportLength ⌝ }
+    ensures { λ r. ⌜ now (s .exit) ≡ take reportLength (now (s .entry)) ++ take reportLength (now (s .entry)) ⌝ }
+{
+    let mut i: usize = 0;
+    while i < REPORT {
+        let v = s[i];
+        s[REPORT + i] = v;
+        i += 1;
+    }
+}
+
+// And there with another number.
+fn tell_again(s: &mut [u8], n: u32)
+    requires { ⌜ length (now s) ≡ reportLength + reportLength ⌝ }
+    ensures { λ r. ⌜ now (s .exit) ≡ take reportLength (now (s .entry)) ++ renumbered n (take reportLength (now (s .entry))) ⌝ }
+{
+    repeat(s);
+    put_four(&mut s[REPORT + COUNT_AT..REPORT + STRINGS_FROM], n);
+}
+
+// Do the bytes of the piece from `from` on begin with a record that passes? Then its report is written behind the one before, with which
+// the outbox begins.
+pub(crate) fn calm_turn(
+    hall: Hall,
+    mapped: [u32; STRINGS],
+    piece: &[u8],
+    from: usize,
+    out: &mut [u8],
+) -> bool
+    requires { ⌜ (from ≤ length (now piece)) × (reportLength + reportLength ≤ length (now out)) ⌝ }
+    requires { ⌜ mapped ≡ mappedWords (hall .masks) ⌝ }
+    ensures { λ r. ⌜ r ≡ passesAt hall from (now (piece .entry)) ⌝ }
+    ensures { λ r. ⌜ now (out .exit) ≡ cond (passesAt hall from (now (piece .entry))) (toldAgain (hall .n + 1) (now (out .entry))) (now (out .entry)) ⌝ }
+{
+    if piece.len() - from < MINOR_LENGTH {
+        return false;
+    }
+    if !passes(hall, mapped, &piece[from..from + MINOR_LENGTH]) {
+        return false;
+    }
+    tell_again(&mut out[..REPORT + REPORT], hall.n + 1);
+    true
+}
