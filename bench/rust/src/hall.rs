@@ -33,6 +33,8 @@ pub struct Hall {
     n: u32,
     masks: [[u32; MANIFOLDS]; STRINGS],
     mapped: Words,
+    /// Is any jet mapped?
+    has_jets: bool,
     /// Bit s set: the path of string s is lost.
     lost: u8,
     standing: Standing,
@@ -73,6 +75,7 @@ impl Hall {
             n: 0,
             masks,
             mapped,
+            has_jets: mapped != [0; STRINGS],
             lost: 0,
             standing: fresh,
             good: fresh,
@@ -259,20 +262,29 @@ impl Hall {
     }
 
     /// Steps 6 to 8, and the banks.
+    #[inline(always)]
     fn step_major(&mut self, record: &MajorRecord) {
-        let before = self.standing.fail;
-        let mut closing = self.on_failures(record);
         if self.lost == 0 {
+            let closing = self.on_failures(record);
             self.good = self.standing;
+            if closing != [0; STRINGS] {
+                self.close_manifolds(closing);
+            }
         } else {
-            self.keep_lost(before);
-            strings_of(self.lost).for_each(|s| closing[s] = 0);
-            strings_of(!self.lost).for_each(|s| self.good.copy(&self.standing, s));
-        }
-        if closing != [0; STRINGS] {
-            self.close_manifolds(closing);
+            self.step_major_aside(record);
         }
         self.weigh(record);
+    }
+
+    /// Steps 6 to 8 where a path is lost.
+    #[cold]
+    fn step_major_aside(&mut self, record: &MajorRecord) {
+        let before = self.standing.fail;
+        let mut closing = self.on_failures(record);
+        self.keep_lost(before);
+        strings_of(self.lost).for_each(|s| closing[s] = 0);
+        strings_of(!self.lost).for_each(|s| self.good.copy(&self.standing, s));
+        self.close_manifolds(closing);
     }
 
     /// Steps 6 and 7. Gives the jets whose manifolds have to be closed.
@@ -281,7 +293,7 @@ impl Hall {
         let temperatures = temperatures(record);
         let mut leaks = [0; STRINGS];
         // A leak is rare, and looked for in all strings at once.
-        if self.mapped != [0; STRINGS] && any_leaks(temperatures.as_flattened()) {
+        if self.has_jets && any_leaks(temperatures.as_flattened()) {
             leaks = leaks_of(temperatures);
         }
         let bad = each(|s| self.mapped[s] & !commanded(record, s) & (driver(record, s) | leaks[s]));
