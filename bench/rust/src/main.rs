@@ -6,12 +6,15 @@ mod leaks;
 mod record;
 
 use hall::{Hall, Report, MASKS_LENGTH, REPORT_LENGTH};
-use record::{look, Look, MINOR_LENGTH};
+use record::{look, Look, MAJOR_LENGTH, MINOR_LENGTH};
 use std::fs::File;
 use std::io::{self, stdin, stdout, ErrorKind, Read, Write};
 use std::os::fd::AsFd;
 
-const BUFFER_LENGTH: usize = 65_536;
+/// The most that is read at once.
+const READ_LENGTH: usize = 65_536;
+/// With room for what waits for more bytes.
+const BUFFER_LENGTH: usize = READ_LENGTH + MAJOR_LENGTH;
 /// The buffer has no more records than this.
 const MOST_RECORDS: usize = BUFFER_LENGTH / MINOR_LENGTH;
 
@@ -22,7 +25,7 @@ fn main() -> io::Result<()> {
     let mut buffer = vec![0; BUFFER_LENGTH];
     let mut filled = 0;
     while filled < MASKS_LENGTH {
-        match read_ready(&mut input, &mut buffer[filled..]) {
+        match read_ready(&mut input, &mut buffer[filled..][..READ_LENGTH]) {
             0 => return Ok(()),
             got => filled += got,
         }
@@ -36,10 +39,12 @@ fn main() -> io::Result<()> {
         let (rest, told) = settle_all(&mut hall, &buffer[from..filled], &mut reports);
         output.write_all(reports[..told].as_flattened())?;
         // What waits for more bytes moves to the front, so that every record lies whole.
-        buffer.copy_within(filled - rest..filled, 0);
+        if rest < filled {
+            buffer.copy_within(filled - rest..filled, 0);
+        }
         from = 0;
         filled = rest;
-        match read_ready(&mut input, &mut buffer[filled..]) {
+        match read_ready(&mut input, &mut buffer[filled..][..READ_LENGTH]) {
             0 => return Ok(()),
             got => filled += got,
         }
@@ -61,18 +66,19 @@ fn read_ready(input: &mut File, buffer: &mut [u8]) -> usize {
 fn settle_all(hall: &mut Hall, mut feed: &[u8], reports: &mut [Report]) -> (usize, usize) {
     let mut told = 0;
     loop {
-        let (minor, major) = match look(feed) {
-            Look::Drops(bytes) => {
-                feed = &feed[bytes..];
-                continue;
-            }
+        feed = match look(feed) {
+            Look::Drops(rest) => rest,
             Look::Waits => return (feed.len(), told),
-            Look::Minor(record) => (record, None),
-            Look::Major(record) => (record.first_chunk().expect("a major record is longer"), Some(record)),
+            Look::Minor(record, rest) => {
+                hall.settle_minor(record, &mut reports[told]);
+                told += 1;
+                rest
+            }
+            Look::Major(record, rest) => {
+                hall.settle_major(record, &mut reports[told]);
+                told += 1;
+                rest
+            }
         };
-        let answer = hall.settle(minor, major);
-        hall.report(answer, &mut reports[told]);
-        told += 1;
-        feed = &feed[major.map_or(minor.len(), |record| record.len())..];
     }
 }

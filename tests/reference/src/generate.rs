@@ -19,6 +19,12 @@ pub struct Night {
     pub damaged: u64,
 }
 
+/// How long the feed of a seed is to be, where each has its share of all bytes: some are short and some long, and they
+/// come to the wanted total.
+pub fn size(seed: u64, share: usize) -> usize {
+    [share / 2 + 1, share / 2 + 1, share, 2 * share][(seed % 4) as usize]
+}
+
 /// What the program reads for a seed, masks and then a feed of about `size` bytes or more, and
 /// how many spots of it are damaged.
 pub fn input(seed: u64, size: usize) -> (Vec<u8>, u64) {

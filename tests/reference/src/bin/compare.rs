@@ -5,7 +5,7 @@ use reference::counted::Counted;
 use reference::feed::{masks_bytes, run, MASKS_LENGTH};
 use reference::foreign;
 use reference::foreign_cases::ForeignCases;
-use reference::generate::input;
+use reference::generate::{input, size};
 use reference::hall::{BOTH_WAYS, NOTHING_SETTLED};
 use reference::maps::{each_shared_jet, refused_masks};
 use reference::old_input::old_input;
@@ -80,8 +80,7 @@ fn feeds(watches: &mut [Program], number: u64, total: u64, score: &mut Score) ->
     let (mut tally, mut counted) = (Tally::default(), Counted::of_feeds());
     let share = (total / number) as usize + 1;
     for seed in 0..number {
-        // Short and long feeds, that come to the wanted total.
-        let size = [share / 2 + 1, share / 2 + 1, share, 2 * share][(seed % 4) as usize];
+        let size = size(seed, share);
         let (bytes, damaged) = input(seed, size);
         let reports = reports(&bytes);
         tally.add(bytes.len(), damaged, &reports);
