@@ -13,6 +13,7 @@ pub mod Verdicts
 pub mod Leaks
 pub mod CutWords
 pub mod MappedLeaks
+pub mod CalmMajors
 pub mod Differences
 pub mod Balance
 pub mod SetsKept

@@ -2,9 +2,11 @@
 // that whoever has told both apart need not step them (proofs/CalmHalls).
 ghost use mathlib.Core.Path.{_≡_};
 ghost use Rattle.cycle.specs.Size.{stringCount};
-ghost use Rattle.cycle.specs.Calm.{calm, allCalm, quiet};
+ghost use Rattle.cycle.specs.Calm.{calm, allCalm, quiet, findsNone};
 use crate::size::STRINGS;
+use crate::string::OnSlots;
 use crate::string::StringState;
+use crate::values::Requests;
 use crate::values::Sample;
 use bits::without;
 
@@ -41,4 +43,15 @@ pub fn all_calm(strings: [StringState; STRINGS]) -> bool
         s += 1;
     }
     found
+}
+
+// Do steps 5 to 8 find nothing in one string but what its temperatures say, where these jets are mapped?
+pub fn finds_none(on: OnSlots, close: u32, mapped: u32, sample: Sample, q: Requests) -> bool
+    ensures { λ r. ⌜ r ≡ findsNone mapped sample q on close ⌝ }
+{
+    let none_bad = without(mapped & sample.driver, sample.commanded) == 0;
+    let none_dropped = close & q.drop as u32 == 0;
+    let none_asked = (mapped & q.inhibit == 0)
+        & ((mapped & q.reenable == 0) & (none_dropped & none_bad));
+    (on.newest == 0) & ((on.older == 0) & ((on.recheck == 0) & none_asked))
 }

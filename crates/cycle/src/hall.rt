@@ -3,6 +3,7 @@ ghost use mathlib.Core.Path.{_≡_};
 ghost use mathlib.Core.Bool.{true, false};
 ghost use Rattle.cycle.specs.Size.{stringCount};
 ghost use Rattle.cycle.specs.Hall.{freshHall, started, minorStrings, majorStrings, minorTaken, majorTaken, stepped};
+ghost use Rattle.cycle.specs.Calm.{keptStrings, keptAll};
 ghost use Rattle.cycle.specs.Inside.Quiet.{someBusy, quietStrings};
 ghost use Rattle.cycle.specs.Records.{Record};
 use crate::answer::Answer;
@@ -19,6 +20,7 @@ use crate::size::STRINGS;
 use crate::string::StringState;
 use crate::values::Major;
 use crate::values::Minor;
+use crate::values::Quantities;
 use bits::has;
 
 pub struct Hall {
@@ -141,6 +143,18 @@ fn major_strings(
     next
 }
 
+// Step 8 of every string, written out as the first steps are.
+fn kept_strings(strings: [StringState; STRINGS]) -> [StringState; STRINGS]
+    ensures { λ x. ⌜ x ≡ keptStrings strings ⌝ }
+{
+    [
+        strings[0].kept(),
+        strings[1].kept(),
+        strings[2].kept(),
+        strings[3].kept(),
+    ]
+}
+
 impl Hall {
     // Nothing seen yet.
     pub fn fresh(masks: [Masks; STRINGS]) -> Hall
@@ -180,6 +194,19 @@ impl Hall {
         let quantities = r.quantities;
         let strings = major_strings(before, masks, r);
         let banks = weighed_all(held, quantities);
+        self.strings = strings;
+        self.banks = banks;
+        self
+    }
+
+    // Step 8 of every string, and the banks: all that is left of steps 5 to 8 where they find nothing.
+    pub fn kept_all(mut self, q: [Quantities; MODULES]) -> Hall
+        ensures { λ x. ⌜ x ≡ keptAll q self ⌝ }
+    {
+        let before = self.strings;
+        let held = self.banks;
+        let strings = kept_strings(before);
+        let banks = weighed_all(held, q);
         self.strings = strings;
         self.banks = banks;
         self

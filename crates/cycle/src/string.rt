@@ -299,7 +299,7 @@ impl StringState {
     }
 
     // Step 8.
-    fn kept(mut self) -> StringState
+    pub(crate) fn kept(mut self) -> StringState
         ensures { λ r. ⌜ r ≡ kept self ⌝ }
     {
         let standing = self.standing;

@@ -1,26 +1,53 @@
 // The step: from a hall and the bytes of one record to the answer and the next hall.
 ghost use mathlib.Core.Path.{_≡_};
 ghost use mathlib.Core.Bool.{true};
+ghost use Prim.Native.Nat.{_+_, _≤_, _<_};
+ghost use lib.ListN.{length};
+ghost use Rattle.bits.specs.Bit.{any};
+ghost use Rattle.cycle.specs.Size.{stringCount};
 ghost use Rattle.cycle.specs.Hall.{recordBothWays};
-ghost use Rattle.feed.specs.Values.{valuesOf};
+ghost use Rattle.cycle.specs.Calm.{someLeak, quietMajor};
+ghost use Rattle.feed.specs.Size.{temperaturesLength, majorLength};
+ghost use Rattle.feed.specs.Values.{temperaturesAt, majorOf, valuesOf};
+ghost use Rattle.feed.specs.Inside.Calm.{someCold, leakAt, noneFound};
 ghost use Rattle.feed.specs.Step.{isWhole, stepOf};
 use crate::bytes::two_at;
 use crate::format::Look;
 use crate::format::length_of;
 use crate::format::look_at;
+use crate::size::DROPS_FROM;
 use crate::size::MAJOR_MARK;
+use crate::size::PATH_AT;
+use crate::size::REQUESTS_FROM;
+use crate::size::REQUESTS_LENGTH;
+use crate::size::SAMPLE_LENGTH;
+use crate::size::SAMPLES_FROM;
+use crate::size::TEMPERATURE_LENGTH;
+use crate::size::TEMPERATURES_FROM;
+use crate::size::TEMPERATURES_LENGTH;
 use crate::size::WIRE_AT;
 use crate::values::major_of;
 use crate::values::minor_of;
+use crate::values::quantities_of;
+use crate::values::requests_at;
 use crate::values::requests_of;
+use crate::values::sample_at;
+use crate::values::temperatures_at;
 use cycle::answer::Answer;
+use cycle::calm::finds_none;
 use cycle::hall::Hall;
 use cycle::hall::Stepped;
+use cycle::leak::cold;
+use cycle::leak::leak_word;
 use cycle::map::Masks;
+use cycle::map::mapped_words;
 use cycle::number::Verdict;
 use cycle::number::judged;
 use cycle::requests::both_ways;
+use cycle::size::ALL_JETS;
 use cycle::size::STRINGS;
+use cycle::size::TEMPERATURES;
+use cycle::string::OnSlots;
 
 // Are the bytes one whole record and nothing else?
 fn is_whole(s: &[u8]) -> bool
@@ -70,6 +97,77 @@ fn record_both_ways(masks: [Masks; STRINGS], s: &[u8]) -> bool
     both_ways(masks, requests_of(s))
 }
 
+// Is one of the temperature words from `i` on, a string's, at most 63 as a signed number?
+fn some_cold(s: &[u8], i: usize) -> bool
+    requires { ⌜ i + temperaturesLength ≤ length (now s) ⌝ }
+    ensures { λ r. ⌜ r ≡ someCold (now (s .entry)) i ⌝ }
+{
+    let mut found = false;
+    let mut k: usize = 0;
+    while k < TEMPERATURES {
+        found = found | cold(two_at(s, i + TEMPERATURE_LENGTH * k));
+        k += 1;
+    }
+    found
+}
+
+// Does a mapped jet of the string whose temperatures begin at `i` leak? Where all are mapped, no jet has to be told from the next.
+fn some_leak(mapped: u32, s: &[u8], i: usize) -> bool
+    requires { ⌜ i + temperaturesLength ≤ length (now s) ⌝ }
+    ensures { λ r. ⌜ r ≡ someLeak mapped (temperaturesAt (now (s .entry)) i) ⌝ }
+{
+    if mapped == ALL_JETS {
+        some_cold(s, i)
+    } else {
+        leak_word(mapped, temperatures_at(s, i)) != 0
+    }
+}
+
+// Does one of any string?
+fn some_leaks(mapped: [u32; STRINGS], s: &[u8]) -> bool
+    requires { ⌜ majorLength ≤ length (now s) ⌝ }
+    ensures { λ r. ⌜ r ≡ any stringCount (leakAt (now (s .entry)) mapped) ⌝ }
+{
+    let mut found = false;
+    let mut k: usize = 0;
+    while k < STRINGS {
+        found = found | some_leak(mapped[k], s, TEMPERATURES_FROM + TEMPERATURES_LENGTH * k);
+        k += 1;
+    }
+    found
+}
+
+// Do steps 5 to 8 find nothing in string k but what its temperatures say?
+fn none_found(on: OnSlots, close: u32, mapped: u32, s: &[u8], k: usize) -> bool
+    requires { ⌜ (majorLength ≤ length (now s)) × (k < stringCount) ⌝ }
+    ensures { λ r. ⌜ r ≡ noneFound (now (s .entry)) mapped on close k ⌝ }
+{
+    let sample = sample_at(s, SAMPLES_FROM + SAMPLE_LENGTH * k);
+    let q = requests_at(s, REQUESTS_FROM + REQUESTS_LENGTH * k, DROPS_FROM + k);
+    finds_none(on, close, mapped, sample, q)
+}
+
+// Do steps 5 to 8 of a major record find nothing at all? The strings are written out, so that they stay in their places.
+fn quiet_major(hall: Hall, s: &[u8]) -> bool
+    requires { ⌜ majorLength ≤ length (now s) ⌝ }
+    ensures { λ r. ⌜ r ≡ quietMajor (majorOf (now (s .entry))) hall ⌝ }
+{
+    if s[PATH_AT] != 0 {
+        return false;
+    }
+    let masks = hall.masks;
+    let jets = mapped_words(masks);
+    let a = hall.strings[0];
+    let b = hall.strings[1];
+    let c = hall.strings[2];
+    let d = hall.strings[3];
+    let first = none_found(a.on, a.close, jets[0], s, 0) & none_found(b.on, b.close, jets[1], s, 1);
+    let none = first
+        & none_found(c.on, c.close, jets[2], s, 2)
+        & none_found(d.on, d.close, jets[3], s, 3);
+    if none { !some_leaks(jets, s) } else { false }
+}
+
 // The same step in the halves of the hall's own, for the run: a hall that takes one way through is changed in place, and of a refused
 // record at most the requests are read. (By the hall's own step a record of clean feed costs two and a half times as much.)
 pub(crate) fn step_whole(hall: Hall, s: &[u8]) -> Stepped
@@ -90,6 +188,12 @@ pub(crate) fn step_whole(hall: Hall, s: &[u8]) -> Stepped
             let r = minor_of(s);
             let h = hall.minor_taken(r, next);
             if major {
+                if quiet_major(h, s) {
+                    return Stepped {
+                        answer: Answer::Taken,
+                        hall: h.kept_all(quantities_of(s)),
+                    };
+                }
                 let q = major_of(s, r);
                 Stepped {
                     answer: Answer::Taken,

@@ -82,7 +82,7 @@ pub(crate) fn minor_of(s: &[u8]) -> Minor
 }
 
 // One string's temperature words, from `i` on.
-fn temperatures_at(s: &[u8], i: usize) -> Temperatures
+pub(crate) fn temperatures_at(s: &[u8], i: usize) -> Temperatures
     requires { ⌜ i + temperaturesLength ≤ length (now s) ⌝ }
     ensures { λ r. ⌜ r ≡ temperaturesAt (now (s .entry)) i ⌝ }
 {
@@ -111,7 +111,7 @@ fn temperatures_of(s: &[u8]) -> [Temperatures; STRINGS]
 }
 
 // One string's request words, from `i` on, and its drop byte, at `k`.
-fn requests_at(s: &[u8], i: usize, k: usize) -> Requests
+pub(crate) fn requests_at(s: &[u8], i: usize, k: usize) -> Requests
     requires { ⌜ (i + requestsLength ≤ length (now s)) × (k < length (now s)) ⌝ }
     ensures { λ r. ⌜ r ≡ requestsAt (now (s .entry)) i k ⌝ }
 {
@@ -150,7 +150,7 @@ fn quantities_at(s: &[u8], i: usize) -> Quantities
     }
 }
 
-fn quantities_of(s: &[u8]) -> [Quantities; MODULES]
+pub(crate) fn quantities_of(s: &[u8]) -> [Quantities; MODULES]
     requires { ⌜ majorLength ≤ length (now s) ⌝ }
     ensures { λ r. ⌜ r ≡ quantitiesOf (now (s .entry)) ⌝ }
 {

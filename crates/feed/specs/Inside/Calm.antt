@@ -2,18 +2,23 @@
 -- Assumes nothing.
 use mathlib.Core.Bool.{Bool, true, false, cond, _&&_}
 use mathlib.Core.List.{List, _++_}
-use Prim.Native.Nat.{ℕ, _+_, _-_}
+use Prim.Native.Nat.{ℕ, _+_, _-_, _*_}
 use lib.Dec.{eqb, ltb}
 use lib.ListN.{length, getD, take, drop, replicate}
+use Rattle.bits.specs.Bit.{any}
 use Rattle.cycle.specs.Size.{stringCount}
 use Rattle.cycle.specs.Answers.{isTaken}
-use Rattle.cycle.specs.Calm.{allCalm, mappedWords, follows, allQuiet}
+use Rattle.cycle.specs.Leak.{cold}
+use Rattle.cycle.specs.Calm.{allCalm, mappedWords, follows, allQuiet, findsNone, someLeak}
 use Rattle.cycle.specs.declared.answer.Answer.{Answer}
 use Rattle.cycle.specs.declared.hall.Hall.{Hall}
+use Rattle.cycle.specs.declared.string.OnSlots.{OnSlots}
 use Rattle.feed.specs.Size.{markByte, minorMark, minorLength, wireAt, countAt, stringsFrom, reportLength}
+use Rattle.feed.specs.Size.{temperatureLength, temperatureCount, temperaturesFrom, temperaturesLength, samplesFrom, sampleLength}
+use Rattle.feed.specs.Size.{requestsFrom, requestsLength, dropsFrom}
 use Rattle.feed.specs.Bytes.{two, inFour}
 use Rattle.feed.specs.Format.{goodMinor}
-use Rattle.feed.specs.Values.{minorOf}
+use Rattle.feed.specs.Values.{sampleAt, minorOf, temperaturesAt, requestsAt}
 use Rattle.feed.specs.declared.calm.Calm.{Calm}
 
 -- calm records can follow a taken one that left nothing in the store and nothing under way
@@ -41,3 +46,18 @@ abbrev pub toldAgain : ℕ → List ℕ → List ℕ
 toldAgain n out =
     let report = take reportLength out in
     report ++ (renumbered n report ++ drop (reportLength + reportLength) out)
+
+-- ---- major records, by their bytes
+
+-- one of a string's temperature words, which begin at place i, is cold
+unfoldable pub someCold : List ℕ → ℕ → Bool
+someCold l i = any temperatureCount (λ k. cold (two l (i + temperatureLength * k)))
+
+-- a mapped jet of string s leaks
+abbrev pub leakAt : List ℕ → List ℕ → ℕ → Bool
+leakAt l jets s = someLeak (getD jets s 0) (temperaturesAt l (temperaturesFrom + temperaturesLength * s))
+
+-- steps 5 to 8 find nothing in string s but what its temperatures say
+abbrev pub noneFound : List ℕ → ℕ → OnSlots → ℕ → ℕ → Bool
+noneFound l jets on close s =
+    findsNone jets (sampleAt l (samplesFrom + sampleLength * s)) (requestsAt l (requestsFrom + requestsLength * s) (dropsFrom + s)) on close
