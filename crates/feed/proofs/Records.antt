@@ -9,6 +9,7 @@ pub mod GoodParts
 pub mod Goods
 pub mod NumbersInBytes
 pub mod Tables
+pub mod ColdWords
 pub mod Told
 pub mod HeardValues
 pub mod BadHeard
