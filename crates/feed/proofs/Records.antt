@@ -10,6 +10,7 @@ pub mod Goods
 pub mod NumbersInBytes
 pub mod Tables
 pub mod ColdWords
+pub mod TurnedWords
 pub mod Told
 pub mod HeardValues
 pub mod BadHeard

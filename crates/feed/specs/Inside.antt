@@ -2,8 +2,8 @@
 -- said without it, and the proofs tie the two. Assumes nothing.
 pub mod Finding
 pub mod Turn
-pub mod Calm
 pub mod LowFirst
+pub mod Calm
 -- what a report shows of a hall, as values; the laws say that its report is the hall's
 pub mod Showing
 -- a call as 'find the next record' and 'step'; the laws say that it is the call

@@ -1,9 +1,10 @@
 // Numbers in bytes, the high byte first: read from a slice, and put into a part that is lent.
 ghost use mathlib.Core.Path.{_≡_};
-ghost use Prim.Native.Nat.{_+_, _*_, _/_, _%_, _<_};
+ghost use Prim.Native.Nat.{_+_, _*_, _/_, _%_, _^_, _<_};
 ghost use lib.ListN.{length, getD};
+ghost use Rattle.bits.specs.Bit.{wordBits};
 ghost use Rattle.feed.specs.Bytes.{two, four, inTwo, inFour, putOver};
-ghost use Rattle.feed.specs.Inside.LowFirst.{lowFour};
+ghost use Rattle.feed.specs.Inside.LowFirst.{lowFour, turned};
 
 pub(crate) fn wide16(x: u8) -> u16
     ensures { λ r. ⌜ (r ≡ x) × (r < 256) ⌝ }
@@ -70,8 +71,9 @@ fn turned16(x: u16) -> u16
     (x % 256) * 256 + x / 256
 }
 
-fn turned32(x: u32) -> u32
+pub(crate) fn turned32(x: u32) -> u32
     ensures { λ r. ⌜ lowFour r ≡ inFour x ⌝ }
+    ensures { λ r. ⌜ (r ≡ turned x) × (x < 2 ^ wordBits) ⌝ }
 {
     (x % 256) * 16777216 + (x / 256 % 256) * 65536 + (x / 65536 % 256) * 256 + x / 16777216
 }

@@ -1,15 +1,17 @@
 // Calm records: where nothing is under way, a minor record of the next cycle that finds nothing changes the number alone. It is told apart
 // by its bytes, where they lie; no string is stepped, and its report is the one before with another number.
 ghost use mathlib.Core.Path.{_≡_};
-ghost use mathlib.Core.Bool.{cond};
+ghost use mathlib.Core.Bool.{true, cond};
 ghost use mathlib.Core.List.{_++_};
-ghost use Prim.Native.Nat.{_+_, _≤_};
+ghost use Prim.Native.Nat.{_+_, _^_, _≤_, _<_};
 ghost use lib.ListN.{length, take};
+ghost use Rattle.bits.specs.Bit.{wordBits};
 ghost use Rattle.cycle.specs.Calm.{mappedWords, allQuiet};
 ghost use Rattle.feed.specs.Size.{minorLength, reportLength};
 ghost use Rattle.feed.specs.Values.{minorOf};
-ghost use Rattle.feed.specs.Inside.Calm.{passes, passesAt, renumbered, toldAgain, calmAfter};
+ghost use Rattle.feed.specs.Inside.Calm.{Words, turnedSample, turnedWords, passes, passesAt, renumbered, toldAgain, calmAfter};
 use crate::bytes::put_four;
+use crate::bytes::turned32;
 use crate::bytes::two_at;
 use crate::format::good_minor;
 use crate::size::COUNT_AT;
@@ -29,21 +31,48 @@ use cycle::hall::Hall;
 use cycle::map::mapped_words;
 use cycle::number::follows;
 use cycle::size::STRINGS;
+use cycle::values::Sample;
 
-// Whether calm records can follow, and then each string's mapped jets.
+// Whether calm records can follow, and then each string's mapped jets, with the bytes in the order of a record.
 pub struct Calm {
     pub yes: bool,
     pub mapped: [u32; STRINGS],
 }
 
+// The words with their bytes in the other order.
+fn turned_words(words: [u32; STRINGS]) -> [u32; STRINGS]
+    ensures { λ r. ⌜ (r ≡ turnedWords words) × Words words ⌝ }
+{
+    let mut turned = words;
+    let mut s: usize = 0;
+    while s < STRINGS {
+        turned[s] = turned32(words[s]);
+        s += 1;
+    }
+    turned
+}
+
+// The sample with its commanded and pressure words as they stand in the record: so the compiler need not turn them.
+fn turned_sample(x: Sample) -> Sample
+    ensures { λ r. ⌜ (r ≡ turnedSample x) × (x .commanded < 2 ^ wordBits) × (x .pressure < 2 ^ wordBits) ⌝ }
+{
+    Sample {
+        commanded: turned32(x.commanded),
+        pressure: turned32(x.pressure),
+        driver: x.driver,
+        valves: x.valves,
+    }
+}
+
 // After a record with this answer, that left `count` bytes in the store and this hall.
 pub(crate) fn calm_after(answer: Answer, count: usize, hall: Hall) -> Calm
-    ensures { λ r. ⌜ r ≡ calmAfter answer count hall ⌝ }
+    ensures { λ r. ⌜ (r ≡ calmAfter answer count hall) × (r .yes ≡ true → Words (mappedWords (hall .masks))) ⌝ }
 {
     let strings = hall.strings;
     if answer.is_taken() & ((count == 0) & all_calm(strings)) {
         let masks = hall.masks;
-        let words = mapped_words(masks);
+        let jets = mapped_words(masks);
+        let words = turned_words(jets);
         Calm {
             yes: true,
             mapped: words,
@@ -60,7 +89,7 @@ pub(crate) fn calm_after(answer: Answer, count: usize, hall: Hall) -> Calm
 // Do the record's samples find nothing?
 fn all_quiet(hall: Hall, mapped: [u32; STRINGS], s: &[u8]) -> bool
     requires { ⌜ length (now s) ≡ minorLength ⌝ }
-    requires { ⌜ mapped ≡ mappedWords (hall .masks) ⌝ }
+    requires { ⌜ (mapped ≡ turnedWords (mappedWords (hall .masks))) × Words (mappedWords (hall .masks)) ⌝ }
     ensures { λ r. ⌜ r ≡ allQuiet (minorOf (now (s .entry))) hall ⌝ }
 {
     let strings = hall.strings;
@@ -69,7 +98,7 @@ fn all_quiet(hall: Hall, mapped: [u32; STRINGS], s: &[u8]) -> bool
     while k < STRINGS {
         let string = strings[k];
         let sample = sample_at(s, SAMPLES_FROM + SAMPLE_LENGTH * k);
-        found = found & string.is_quiet(mapped[k], sample);
+        found = found & string.is_quiet(mapped[k], turned_sample(sample));
         k += 1;
     }
     (s[PATH_AT] == 0) & found
@@ -78,7 +107,7 @@ fn all_quiet(hall: Hall, mapped: [u32; STRINGS], s: &[u8]) -> bool
 // Are the bytes a good minor record of the next cycle that finds nothing? The sum comes last: it is the dearest test.
 fn passes(hall: Hall, mapped: [u32; STRINGS], s: &[u8]) -> bool
     requires { ⌜ length (now s) ≡ minorLength ⌝ }
-    requires { ⌜ mapped ≡ mappedWords (hall .masks) ⌝ }
+    requires { ⌜ (mapped ≡ turnedWords (mappedWords (hall .masks))) × Words (mappedWords (hall .masks)) ⌝ }
     ensures { λ r. ⌜ r ≡ passes hall (now (s .entry)) ⌝ }
 {
     if s[0] != MARK {
@@ -128,7 +157,7 @@ pub(crate) fn calm_turn(
     out: &mut [u8],
 ) -> bool
     requires { ⌜ (from ≤ length (now piece)) × (reportLength + reportLength ≤ length (now out)) ⌝ }
-    requires { ⌜ mapped ≡ mappedWords (hall .masks) ⌝ }
+    requires { ⌜ (mapped ≡ turnedWords (mappedWords (hall .masks))) × Words (mappedWords (hall .masks)) ⌝ }
     ensures { λ r. ⌜ r ≡ passesAt hall from (now (piece .entry)) ⌝ }
     ensures { λ r. ⌜ now (out .exit) ≡ cond (passesAt hall from (now (piece .entry))) (toldAgain (hall .n + 1) (now (out .entry))) (now (out .entry)) ⌝ }
 {

@@ -24,7 +24,7 @@ use Rattle.feed.specs.Reader.{Stop, reads, store}
 use Rattle.feed.specs.Report.{headOf, reportOf}
 use Rattle.feed.specs.Call.{holds, holding, Result, calledBy, called, call}
 use Rattle.feed.specs.OneRecord.{settledTo}
-use Rattle.feed.specs.Inside.Calm.{passes, passesAt, renumbered, toldAgain, calmAfter}
+use Rattle.feed.specs.Inside.Calm.{Words, turnedWords, passes, passesAt, renumbered, toldAgain, calmAfter}
 use Rattle.feed.specs.Inside.Turn.{Turns}
 use Rattle.feed.specs.declared.calm.Calm.{Calm}
 use Rattle.feed.specs.declared.call.Monitor.{Monitor}
@@ -40,7 +40,8 @@ use Rattle.feed.proofs.Calls.Calms.{passes-whole, passes-steps, passes-
 -- nothing is under way or in the store, the mapped jets are the hall's, and the report before is that of a taken record
 pub record Calmed (hall : Hall) (mapped : List ℕ) (count written : ℕ) (out : List ℕ) : Type 0 where
   pub calm : allCalm stringCount (hall .strings) ≡ true
-  pub jets : mapped ≡ mappedWords (hall .masks)
+  pub jets : mapped ≡ turnedWords (mappedWords (hall .masks))
+  pub words : Words (mappedWords (hall .masks))
   pub none : count ≡ 0
   pub told : reportLength ≤ written
   pub before : take reportLength (drop (written - reportLength) out) ≡ reportOf Taken hall
@@ -145,6 +146,7 @@ module _ (m : Monitor) (piece out₀ : List ℕ) (hall : Hall) (b mapped : List 
             record {
               calm = c .calm;
               jets = c .jets;
+              words = c .words;
               none = c .none;
               told = omega arith;
               before =
@@ -163,22 +165,24 @@ settled-report false h s used out c e w = not-both false (ap (λ (x : Result). w
 
 -- what the test for what can follow it says
 abbrev chosen : Bool → Hall → Calm
-chosen t h = cond t (record { yes = true; mapped = mappedWords (h .masks) }) (record { yes = false; mapped = replicate stringCount 0 })
+chosen t h = cond t (record { yes = true; mapped = turnedWords (mappedWords (h .masks)) }) (record { yes = false; mapped = replicate stringCount 0 })
 
 after-yes : (a : Answer) (count : ℕ) (h : Hall) → (calmAfter a count h) .yes ≡ true
-    → ((isTaken a && (eqb count 0 && allCalm stringCount (h .strings))) ≡ true) × ((calmAfter a count h) .mapped ≡ mappedWords (h .masks))
+    → ((isTaken a && (eqb count 0 && allCalm stringCount (h .strings))) ≡ true)
+    × ((calmAfter a count h) .mapped ≡ turnedWords (mappedWords (h .masks)))
 unfolding calmAfter
 after-yes a count h = by (isTaken a && (eqb count 0 && allCalm stringCount (h .strings)))
   where
-    by : (t : Bool) → (chosen t h) .yes ≡ true → (t ≡ true) × ((chosen t h) .mapped ≡ mappedWords (h .masks))
+    by : (t : Bool) → (chosen t h) .yes ≡ true → (t ≡ true) × ((chosen t h) .mapped ≡ turnedWords (mappedWords (h .masks)))
     by true y = (refl, refl)
     by false y = not-both false y refl
 
 pub calm-left : (m : Monitor) (piece out : List ℕ) (used written : ℕ) (r : Turned) (b o front : List ℕ) → length front ≡ written
     → Turns (called m piece out) used r b o → r .settled ≡ true → (calmAfter (r .answer) (r .count) (r .hall)) .yes ≡ true
+    → Words (mappedWords (r .hall .masks))
     → Calmed (r .hall) ((calmAfter (r .answer) (r .count) (r .hall)) .mapped) (r .count) (written + reportLength) (front ++ o)
 unfolding called
-calm-left m piece out used written r b o front long t settled y =
+calm-left m piece out used written r b o front long t settled y w =
     let told = after-yes (r .answer) (r .count) (r .hall) y in
     let rest = and-right (isTaken (r .answer)) _ (told .0) in
     let taken : r .answer ≡ Taken = taken-only (r .answer) (and-left (isTaken (r .answer)) _ (told .0)) in
@@ -192,6 +196,7 @@ calm-left m piece out used written r b o front long t settled y =
     record {
       calm = and-right (eqb (r .count) 0) _ rest;
       jets = told .1;
+      words = w;
       none = eqb-true (r .count) 0 (and-left (eqb (r .count) 0) _ rest);
       told = omega arith;
       before =

@@ -4,14 +4,14 @@ use mathlib.Core.Path.{_≡_, refl, sym, ap, _∙_}
 use mathlib.Core.Bool.{Bool, true, false, cond, _&&_}
 use mathlib.Core.List.{List, [], _++_}
 use mathlib.Core.Logic.{inl}
-use Prim.Native.Nat.{ℕ, zero, suc, _+_, _-_, _*_, _<_, _≤_}
+use Prim.Native.Nat.{ℕ, zero, suc, _+_, _-_, _*_, _^_, _<_, _≤_}
 use native.Mathlib.Nat.{add-sub-cancel-left}
 use native.Mathlib.Omega.{arith}
 use borrow.Author.Tests.{eqb-true, ltb-true, ltb-false, lt-ltb, le-ltb}
 use lib.Dec.{eqb, ltb}
-use lib.ListN.{length, getD, take, drop}
+use lib.ListN.{length, getD, take, drop, replicate}
 use Rattle.bits.proofs.Yes.{and-left, and-right, not-both}
-use Rattle.bits.specs.Bit.{every}
+use Rattle.bits.specs.Bit.{wordBits, every}
 use Rattle.cycle.specs.Size.{stringCount, manifoldCount, lastCount}
 use Rattle.cycle.specs.Map.{masksOf, mapped}
 use Rattle.cycle.specs.Hall.{noSample, pastString, stringOf, stepped}
@@ -19,15 +19,20 @@ use Rattle.cycle.specs.Records.{minor, major}
 use Rattle.cycle.specs.Calm.{quiet, allCalm, mappedWords, follows, allQuiet, onward}
 use Rattle.cycle.specs.declared.answer.Answer.the-variants.{Taken}
 use Rattle.cycle.specs.declared.hall.Hall.{Hall}
+use Rattle.cycle.specs.declared.map.Masks.{Masks}
+use Rattle.cycle.specs.declared.values.Sample.{Sample}
 use Rattle.cycle.specs.declared.string.StringState.{StringState}
+use Rattle.cycle.proofs.Each.{each-length}
 use Rattle.cycle.proofs.CalmHalls.{mapped-at, minor-passes}
 use Rattle.feed.specs.Size.{markByte, minorMark, majorMark, minorLength, wireAt, pathAt, samplesFrom, sampleLength, reservedFrom}
 use Rattle.feed.specs.Bytes.{two}
 use Rattle.feed.specs.Format.{sumOf, sumRight, reservedZero, goodMinor}
 use Rattle.feed.specs.Good.{WholeRecord}
 use Rattle.feed.specs.Values.{sampleAt, samplesOf, minorOf, majorOf, valuesOf}
-use Rattle.feed.specs.Inside.Calm.{passes, passesAt}
+use Rattle.feed.specs.Inside.LowFirst.{turned}
+use Rattle.feed.specs.Inside.Calm.{Words, turnedSample, turnedWords, passes, passesAt}
 use Rattle.feed.proofs.Records.Tables.{table-at}
+use Rattle.feed.proofs.Records.TurnedWords.{quiet-turned, turned-at}
 
 -- ---- the samples of a record
 
@@ -36,20 +41,38 @@ unfolding every
 every-same zero f g e = refl
 every-same (suc n) f g e = rw (every-same n f g (λ i b. e i (omega arith)), e n (omega arith))
 
--- string s finds nothing, by the bytes
+-- string s finds nothing, by the bytes as they stand
 abbrev pub quietAt : List ℕ → List ℕ → List StringState → ℕ → Bool
-quietAt l jets strings s = quiet (getD jets s 0) (sampleAt l (samplesFrom + sampleLength * s)) (getD strings s pastString)
+quietAt l jets strings s =
+    quiet (getD jets s 0) (turnedSample (sampleAt l (samplesFrom + sampleLength * s))) (getD strings s pastString)
 
-pub all-quiet-told : (l jets : List ℕ) (h : Hall) → jets ≡ mappedWords (h .masks)
+-- its words are words
+abbrev pub WordsAt : List ℕ → ℕ → Type 0
+WordsAt l s =
+    ((sampleAt l (samplesFrom + sampleLength * s)) .commanded < 2 ^ wordBits)
+    × ((sampleAt l (samplesFrom + sampleLength * s)) .pressure < 2 ^ wordBits)
+
+mapped-long : (masks : List Masks) → stringCount ≤ length (mappedWords masks)
+unfolding mappedWords
+mapped-long masks =
+    rw (each-length (λ s x. mapped manifoldCount (masksOf masks s)) 0 (replicate stringCount 0) stringCount) (omega arith)
+
+pub all-quiet-told : (l jets : List ℕ) (h : Hall) → jets ≡ turnedWords (mappedWords (h .masks)) → Words (mappedWords (h .masks))
+    → ((s : ℕ) → s < stringCount → WordsAt l s)
     → (eqb (getD l pathAt 0) 0 && every stringCount (quietAt l jets (h .strings))) ≡ allQuiet (minorOf l) h
 unfolding allQuiet minorOf samplesOf
-all-quiet-told l jets h e =
+all-quiet-told l jets h e words fit =
     ap (λ (b : Bool). eqb (getD l pathAt 0) 0 && b)
     (every-same stringCount _ _
     (λ s b.
-    ap (λ (j : List ℕ). quiet (getD j s 0) (sampleAt l (samplesFrom + sampleLength * s)) (stringOf h s)) e
-    ∙ ap (λ (j : ℕ). quiet j (sampleAt l (samplesFrom + sampleLength * s)) (stringOf h s)) (mapped-at (h .masks) s b)
-    ∙ ap (λ x. quiet (mapped manifoldCount (masksOf (h .masks) s)) x (stringOf h s)) (sym (table-at (λ k. sampleAt l (samplesFrom + sampleLength * k)) noSample stringCount s b))))
+    let x : Sample = sampleAt l (samplesFrom + sampleLength * s) in
+    let jet : getD jets s 0 ≡ turned (getD (mappedWords (h .masks)) s 0) =
+    ap (λ (j : List ℕ). getD j s 0) e ∙ turned-at (mappedWords (h .masks)) s b (mapped-long (h .masks)) in
+    ap (λ (j : ℕ). quiet j (turnedSample x) (stringOf h s)) jet
+    ∙ quiet-turned (getD (mappedWords (h .masks)) s 0) x (stringOf h s) (words s b) (fit s b .0) (fit s b .1)
+    ∙ ap (λ (j : ℕ). quiet j x (stringOf h s)) (mapped-at (h .masks) s b)
+    ∙ ap (λ (y : Sample). quiet (mapped manifoldCount (masksOf (h .masks) s)) y (stringOf h s))
+    (sym (table-at (λ k. sampleAt l (samplesFrom + sampleLength * k)) noSample stringCount s b))))
 
 -- ---- what a record that passes is
 

@@ -2,29 +2,44 @@
 -- Assumes nothing.
 use mathlib.Core.Bool.{Bool, true, false, cond, _&&_}
 use mathlib.Core.List.{List, _++_}
-use Prim.Native.Nat.{ℕ, _+_, _-_, _*_}
+use Prim.Native.Nat.{ℕ, _+_, _-_, _*_, _^_, _<_}
 use lib.Dec.{eqb, ltb}
 use lib.ListN.{length, getD, take, drop, replicate}
-use Rattle.bits.specs.Bit.{any}
+use Rattle.bits.specs.Bit.{wordBits, any}
 use Rattle.cycle.specs.Size.{stringCount}
+use Rattle.cycle.specs.Each.{each}
 use Rattle.cycle.specs.Answers.{isTaken}
 use Rattle.cycle.specs.Leak.{cold}
 use Rattle.cycle.specs.Calm.{allCalm, mappedWords, follows, allQuiet, findsNone, someLeak}
 use Rattle.cycle.specs.declared.answer.Answer.{Answer}
 use Rattle.cycle.specs.declared.hall.Hall.{Hall}
 use Rattle.cycle.specs.declared.string.OnSlots.{OnSlots}
+use Rattle.cycle.specs.declared.values.Sample.{Sample}
 use Rattle.feed.specs.Size.{markByte, minorMark, minorLength, wireAt, countAt, stringsFrom, reportLength}
 use Rattle.feed.specs.Size.{temperatureLength, temperatureCount, temperaturesFrom, temperaturesLength, samplesFrom, sampleLength}
 use Rattle.feed.specs.Size.{requestsFrom, requestsLength, dropsFrom}
 use Rattle.feed.specs.Bytes.{two, inFour}
 use Rattle.feed.specs.Format.{goodMinor}
 use Rattle.feed.specs.Values.{sampleAt, minorOf, temperaturesAt, requestsAt}
+use Rattle.feed.specs.Inside.LowFirst.{turned}
 use Rattle.feed.specs.declared.calm.Calm.{Calm}
+
+-- commanded and pressure words with their bytes in the other order, as they stand in the record: bits are told byte by byte
+abbrev pub turnedSample : Sample → Sample
+turnedSample x = record { commanded = turned (x .commanded); pressure = turned (x .pressure); driver = x .driver; valves = x .valves }
+
+-- words, as an array of u32 has them
+abbrev pub Words : List ℕ → Type 0
+Words words = (s : ℕ) → s < stringCount → getD words s 0 < 2 ^ wordBits
+
+-- each string's mapped jets in the same order
+unfoldable pub turnedWords : List ℕ → List ℕ
+turnedWords words = each stringCount (λ s x. turned x) 0 words
 
 -- calm records can follow a taken one that left nothing in the store and nothing under way
 unfoldable pub calmAfter : Answer → ℕ → Hall → Calm
 calmAfter a count h =
-    cond (isTaken a && (eqb count 0 && allCalm stringCount (h .strings))) (record { yes = true; mapped = mappedWords (h .masks) })
+    cond (isTaken a && (eqb count 0 && allCalm stringCount (h .strings))) (record { yes = true; mapped = turnedWords (mappedWords (h .masks)) })
     (record { yes = false; mapped = replicate stringCount 0 })
 
 -- the bytes are a good minor record of the next cycle that finds nothing

@@ -16,7 +16,7 @@ returns-2 : tie.Need-returns-2
 returns-2 c =
     let a = c .before .before .before .args in
     sets-all (a .s .now) (lowFour (c .turned32 .result)) (search needs)
-    ∙ c .turned32 .ensures
+    ∙ c .turned32 .ensures .0
     ∙ sym (put-over (inFour (a .x)) (a .s .now) (search needs))
 
 pub put-four-spec : {M : Type 1} → statement M

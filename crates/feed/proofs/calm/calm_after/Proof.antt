@@ -1,8 +1,9 @@
 -- `feed::calm::calm_after` meets its contract. Assumes nothing.
 use borrow.Author.Needs.{needs}
-use mathlib.Core.Path.{_≡_, sym, ap₂, _∙_}
+use mathlib.Core.Path.{_≡_, refl, sym, ap₂, _∙_}
 use mathlib.Core.Bool.{Bool, true, false, _&&_}
 use lib.Dec.{eqb}
+use Rattle.bits.proofs.Yes.{not-both}
 use Rattle.cycle.specs.Size.{stringCount}
 use Rattle.cycle.specs.Answers.{isTaken}
 use Rattle.cycle.specs.Calm.{allCalm}
@@ -20,11 +21,15 @@ told c b e = sym (ap₂ (λ (x y : Bool). x && (eqb (start c .args .count) 0 && 
 
 returns : tie.Need-returns
 unfolding calmAfter
-returns c = rw (told (c .before .before .before) true (c .before .before .if1 .taken), c .mapped-words .ensures)
+returns c =
+    let jets = c .before .mapped-words .ensures in (
+      rw (told (c .before .before .before .before) true (c .before .before .before .if1 .taken), ← jets, c .turned-words .ensures .0),
+      λ y. rw jets at (c .turned-words .ensures .1),
+    )
 
 returns-2 : tie.Need-returns-2
 unfolding calmAfter
-returns-2 c = rw (told (c .before) false (c .if1 .left))
+returns-2 c = (rw (told (c .before) false (c .if1 .left)), λ y. not-both false y refl)
 
 pub calm-after-spec : {M : Type 1} → statement M
-calm-after-spec = tie.close (tie.spec (λ c κs. search needs) (λ c κs. search needs) (λ c κs. search needs) returns returns-2)
+calm-after-spec = tie.close (tie.spec (λ c κs. search needs) (λ c κs. search needs) (λ c κs. search needs) (λ c κs. search needs) returns returns-2)

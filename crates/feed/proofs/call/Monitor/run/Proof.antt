@@ -112,7 +112,7 @@ calm-turn-requires c κs =
         l .inv .0 .within,
         calm-room _ _ _ _ _ _ _ _ _ _ (l .inv .0) (calmed at-then) (room-for-one (at-then .before)),
       ),
-      calmed at-then .jets,
+      (calmed at-then .jets, calmed at-then .words),
     )
 
 -- where it has passed
@@ -273,9 +273,9 @@ loop-again c =
     rw (put-rest written (j .if2 .out) (left at-turn) (still-within j)) (
       loop-goes _ _ _ _ _ _ _ _ _ (loops j) r (at-turn .turn .last .1 .0) (left at-turn) (still-room j) t settled,
       λ y.
-          rw (after .ensures)
+          rw (after .ensures .0)
           (calm-left _ _ _ _ written r _ (left at-turn) (take written (j .if2 .out)) (length-take-le written (j .if2 .out) (still-within j))
-          t settled (ap (λ (x : Calm). x .yes) (sym (after .ensures)) ∙ y)),
+          t settled (ap (λ (x : Calm). x .yes) (sym (after .ensures .0)) ∙ y) (after .ensures .1 y)),
     )
 
 same-length-2 : tie.Need-same-length-2 Inv-loop μ-loop
