@@ -1,18 +1,18 @@
--- A record of the next cycle that finds nothing, in a hall in which nothing is under way, is taken and changes the number alone. Assumes
--- nothing.
+-- A record of the next cycle that finds nothing, in a hall in which nothing is under way, is taken and changes the number alone.
+-- Assumes nothing.
 use mathlib.Core.Path.{_≡_, refl, sym, ap, _∙_}
 use mathlib.Core.Bool.{Bool, true, false, not, _&&_, _||_}
 use mathlib.Core.List.{List}
-use mathlib.Core.Logic.{⊎-elim}
 use Prim.Native.Nat.{ℕ, zero, suc, _+_, _-_, _/_, _%_, _<_}
-use native.Mathlib.Nat.{not-suc-le-zero, le-of-suc-le-suc, eq-or-lt-of-le}
 use native.Mathlib.Omega.{arith}
 use lib.Bits.{bitAnd, bitOr, and-zero-l, or-zero-r}
 use lib.Dec.{eqb, ltb}
 use borrow.Author.Tests.{eqb-true, ltb-true, le-ltb}
 use lib.ListN.{getD, replicate}
 use lib.Seq.{set-getD}
-use Rattle.bits.specs.Bit.{without, any, every}
+use Rattle.bits.specs.Bit.{without}
+use Rattle.bits.proofs.Every.{every-at}
+use Rattle.bits.proofs.Words.{any-none}
 use Rattle.bits.proofs.Yes.{and-left, and-right, or-neither, not-true}
 use Rattle.cycle.specs.Size.{stringCount, manifoldCount, majorEvery, lastCount, wireSpan}
 use Rattle.cycle.specs.Each.{each}
@@ -103,18 +103,6 @@ cycle-calm m masks x s c q =
 
 -- ---- all strings
 
-every-at : (n : ℕ) (f : ℕ → Bool) → every n f ≡ true → (i : ℕ) → i < n → f i ≡ true
-unfolding every
-every-at zero f e i b = absurd (not-suc-le-zero b)
-every-at (suc n) f e i b =
-    ⊎-elim (λ (q : i ≡ n). rw q (and-right (every n f) (f n) e)) (λ (l : i < n). every-at n f (and-left (every n f) (f n) e) i l)
-    (eq-or-lt-of-le (le-of-suc-le-suc b))
-
-none-any : (n : ℕ) (f : ℕ → Bool) → ((i : ℕ) → i < n → f i ≡ false) → any n f ≡ false
-unfolding any
-none-any zero f e = refl
-none-any (suc n) f e = rw (none-any n f (λ i b. e i (omega arith)), e n (omega arith))
-
 each-still : {A : Type 0} (d : A) (l : List A) (n : ℕ) → each n (λ i x. x) d l ≡ l
 unfolding each
 each-still d l zero = refl
@@ -136,7 +124,7 @@ module _ (r : Minor) (h : Hall) (c : allCalm stringCount (h .strings) ≡ true) 
   none-busy : someBusy stringCount r (h .strings) ≡ false
   unfolding someBusy busy calm quiet
   none-busy =
-      none-any stringCount _
+      any-none stringCount _
       (λ i b.
       let c₀ = and-left (not ((stringOf h i) .lost)) _ (calm-at i b) in
       let x : Sample = sampleOf r i in
@@ -156,7 +144,8 @@ module _ (r : Minor) (h : Hall) (c : allCalm stringCount (h .strings) ≡ true) 
   pub minor-passes : follows (h .n) (r .wire) false ≡ true → stepped (minor r) h ≡ record { answer = Taken; hall = onward h }
   unfolding stepped verdictOn unlessBothWays taken
   minor-passes f =
-      let v : verdictOn (h .n) (h .masks) (minor r) ≡ Takes (nextOf (h .n)) = ap (unlessBothWays false) (follows-judged (h .n) (r .wire) false f) in
+      let v : verdictOn (h .n) (h .masks) (minor r) ≡ Takes (nextOf (h .n)) =
+      ap (unlessBothWays false) (follows-judged (h .n) (r .wire) false f) in
       ap (λ (y : Verdict). steppedBy y (minor r) h) v
       ∙ (λ i. record { answer = Taken; hall = record { n = h .n + 1; masks = h .masks; strings = strings-calm i; banks = h .banks } })
 

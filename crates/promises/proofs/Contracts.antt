@@ -15,9 +15,14 @@ use Rattle.bits.proofs.has as has
 use Rattle.bits.proofs.«with_bit» as with-bit
 use Rattle.bits.proofs.meets as meets
 use Rattle.cycle.proofs.answer.Answer.number as answer-number
+use Rattle.cycle.proofs.answer.Answer.«is_taken» as answer-is-taken
 use Rattle.cycle.proofs.map.Masks.none as masks-none
 use Rattle.cycle.proofs.map.Masks.mapped as masks-mapped
+use Rattle.cycle.proofs.map.«mapped_words» as mapped-words
 use Rattle.cycle.proofs.number.judged as judged
+use Rattle.cycle.proofs.number.follows as follows
+use Rattle.cycle.proofs.string.StringState.«is_quiet» as string-is-quiet
+use Rattle.cycle.proofs.calm.«all_calm» as all-calm
 use Rattle.cycle.proofs.banks.Bank.unknown as bank-unknown
 use Rattle.cycle.proofs.banks.«weighed_all» as weighed-all
 use Rattle.cycle.proofs.requests.«both_ways» as both-ways
@@ -108,14 +113,29 @@ meets-asks κs a = tt
 pub answer-number-asks : AsksNothing answer-number.ended answer-number.Reads.Pre
 answer-number-asks κs a = tt
 
+pub answer-is-taken-asks : AsksNothing answer-is-taken.ended answer-is-taken.Reads.Pre
+answer-is-taken-asks κs a = tt
+
 pub masks-none-asks : AsksNothing masks-none.ended masks-none.Reads.Pre
 masks-none-asks κs a = tt
 
 pub masks-mapped-asks : AsksNothing masks-mapped.ended masks-mapped.Reads.Pre
 masks-mapped-asks κs a = tt
 
+pub mapped-words-asks : AsksNothing mapped-words.ended mapped-words.Reads.Pre
+mapped-words-asks κs a = tt
+
 pub judged-asks : AsksNothing judged.ended judged.Reads.Pre
 judged-asks κs a = tt
+
+pub follows-asks : AsksNothing follows.ended follows.Reads.Pre
+follows-asks κs a = tt
+
+pub string-is-quiet-asks : AsksNothing string-is-quiet.ended string-is-quiet.Reads.Pre
+string-is-quiet-asks κs a = tt
+
+pub all-calm-asks : AsksNothing all-calm.ended all-calm.Reads.Pre
+all-calm-asks κs a = tt
 
 pub bank-unknown-asks : AsksNothing bank-unknown.ended bank-unknown.Reads.Pre
 bank-unknown-asks κs a = tt

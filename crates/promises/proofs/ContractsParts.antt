@@ -7,12 +7,13 @@ use denote.Ref.{now}
 use Rattle.bits.specs.Bit.{bit, withBit}
 use Rattle.bits.specs.Bit as bits
 use Rattle.cycle.specs.Size.{stringCount, manifoldCount, moduleCount}
-use Rattle.cycle.specs.Answers.{numberOf}
+use Rattle.cycle.specs.Answers.{numberOf, isTaken}
 use Rattle.cycle.specs.Map.{noMasks, mapped}
 use Rattle.cycle.specs.Banks.{noBank, weighedAll}
 use Rattle.cycle.specs.Records.{minor, major}
 use Rattle.cycle.specs.Numbers as numbers
 use Rattle.cycle.specs.Hall.{freshHall, started, minorTaken, majorTaken, bothWays}
+use Rattle.cycle.specs.Calm as calm
 use Rattle.feed.specs.Bytes.{two, four, inTwo, inFour, putOver}
 use Rattle.feed.specs.Masks.{masksOfBytes}
 use Rattle.feed.specs.Format.{sumOf}
@@ -32,9 +33,14 @@ use Rattle.bits.proofs.has as has
 use Rattle.bits.proofs.«with_bit» as with-bit
 use Rattle.bits.proofs.meets as meets
 use Rattle.cycle.proofs.answer.Answer.number as answer-number
+use Rattle.cycle.proofs.answer.Answer.«is_taken» as answer-is-taken
 use Rattle.cycle.proofs.map.Masks.none as masks-none
 use Rattle.cycle.proofs.map.Masks.mapped as masks-mapped
+use Rattle.cycle.proofs.map.«mapped_words» as mapped-words
 use Rattle.cycle.proofs.number.judged as judged
+use Rattle.cycle.proofs.number.follows as follows
+use Rattle.cycle.proofs.string.StringState.«is_quiet» as string-is-quiet
+use Rattle.cycle.proofs.calm.«all_calm» as all-calm
 use Rattle.cycle.proofs.banks.Bank.unknown as bank-unknown
 use Rattle.cycle.proofs.banks.«weighed_all» as weighed-all
 use Rattle.cycle.proofs.requests.«both_ways» as both-ways
@@ -83,14 +89,29 @@ meets-is κs a x w p = p
 pub answer-number-is : Says answer-number.ended answer-number.Reads.Post (λ κs a x w. x ≡ numberOf (a .0))
 answer-number-is κs a x w p = p
 
+pub answer-is-taken-is : Says answer-is-taken.ended answer-is-taken.Reads.Post (λ κs a x w. x ≡ isTaken (a .0))
+answer-is-taken-is κs a x w p = p
+
 pub masks-none-is : Says masks-none.ended masks-none.Reads.Post (λ κs a x w. x ≡ noMasks)
 masks-none-is κs a x w p = p
 
 pub masks-mapped-is : Says masks-mapped.ended masks-mapped.Reads.Post (λ κs a x w. x ≡ mapped manifoldCount (a .0 .words))
 masks-mapped-is κs a x w p = p
 
+pub mapped-words-is : Says mapped-words.ended mapped-words.Reads.Post (λ κs a x w. x ≡ calm.mappedWords (a .0))
+mapped-words-is κs a x w p = p
+
 pub judged-is : Says judged.ended judged.Reads.Post (λ κs a x w. x ≡ numbers.judged (a .0) (a .1 .0) (a .1 .1 .0))
 judged-is κs a x w p = p
+
+pub follows-is : Says follows.ended follows.Reads.Post (λ κs a x w. x ≡ calm.follows (a .0) (a .1 .0) (a .1 .1 .0))
+follows-is κs a x w p = p
+
+pub string-is-quiet-is : Says string-is-quiet.ended string-is-quiet.Reads.Post (λ κs a x w. x ≡ calm.quiet (a .1 .0) (a .1 .1 .0) (a .0))
+string-is-quiet-is κs a x w p = p
+
+pub all-calm-is : Says all-calm.ended all-calm.Reads.Post (λ κs a x w. x ≡ calm.allCalm stringCount (a .0))
+all-calm-is κs a x w p = p
 
 pub bank-unknown-is : Says bank-unknown.ended bank-unknown.Reads.Post (λ κs a x w. x ≡ noBank)
 bank-unknown-is κs a x w p = p

@@ -2,9 +2,14 @@
 use mathlib.Core.Path.{refl, sym, _∙_}
 use Rattle.promises.specs.Outcomes.{OneOutcome}
 use Rattle.cycle.proofs.answer.Answer.number as answer-number
+use Rattle.cycle.proofs.answer.Answer.«is_taken» as answer-is-taken
 use Rattle.cycle.proofs.map.Masks.none as masks-none
 use Rattle.cycle.proofs.map.Masks.mapped as masks-mapped
+use Rattle.cycle.proofs.map.«mapped_words» as mapped-words
 use Rattle.cycle.proofs.number.judged as judged
+use Rattle.cycle.proofs.number.follows as follows
+use Rattle.cycle.proofs.string.StringState.«is_quiet» as string-is-quiet
+use Rattle.cycle.proofs.calm.«all_calm» as all-calm
 use Rattle.cycle.proofs.banks.Bank.unknown as bank-unknown
 use Rattle.cycle.proofs.banks.«weighed_all» as weighed-all
 use Rattle.cycle.proofs.requests.«both_ways» as both-ways
@@ -18,14 +23,29 @@ use Rattle.cycle.proofs.hall.start as start
 pub answer-number-one : OneOutcome answer-number.ended answer-number.Reads.Post
 answer-number-one κs a x x′ w w′ p q = (p ∙ sym q, refl)
 
+pub answer-is-taken-one : OneOutcome answer-is-taken.ended answer-is-taken.Reads.Post
+answer-is-taken-one κs a x x′ w w′ p q = (p ∙ sym q, refl)
+
 pub masks-none-one : OneOutcome masks-none.ended masks-none.Reads.Post
 masks-none-one κs a x x′ w w′ p q = (p ∙ sym q, refl)
 
 pub masks-mapped-one : OneOutcome masks-mapped.ended masks-mapped.Reads.Post
 masks-mapped-one κs a x x′ w w′ p q = (p ∙ sym q, refl)
 
+pub mapped-words-one : OneOutcome mapped-words.ended mapped-words.Reads.Post
+mapped-words-one κs a x x′ w w′ p q = (p ∙ sym q, refl)
+
 pub judged-one : OneOutcome judged.ended judged.Reads.Post
 judged-one κs a x x′ w w′ p q = (p ∙ sym q, refl)
+
+pub follows-one : OneOutcome follows.ended follows.Reads.Post
+follows-one κs a x x′ w w′ p q = (p ∙ sym q, refl)
+
+pub string-is-quiet-one : OneOutcome string-is-quiet.ended string-is-quiet.Reads.Post
+string-is-quiet-one κs a x x′ w w′ p q = (p ∙ sym q, refl)
+
+pub all-calm-one : OneOutcome all-calm.ended all-calm.Reads.Post
+all-calm-one κs a x x′ w w′ p q = (p ∙ sym q, refl)
 
 pub bank-unknown-one : OneOutcome bank-unknown.ended bank-unknown.Reads.Post
 bank-unknown-one κs a x x′ w w′ p q = (p ∙ sym q, refl)

@@ -159,7 +159,8 @@ module _ (m : Monitor) (piece out₀ : List ℕ) (hall : Hall) (b mapped : List 
 
 -- the outbox of a call that settled a record begins with its report
 settled-report : (t : Bool) (h : Hall) (s : Stop) (used : ℕ) (out : List ℕ) (c : Result) → c ≡ calledBy t h s used out
-    → writesReport (c .outcome .answer) ≡ true → c .outbox ≡ reportOf (c .outcome .answer) (c .outcome .monitor .hall) ++ drop reportLength out
+    → writesReport (c .outcome .answer) ≡ true
+    → c .outbox ≡ reportOf (c .outcome .answer) (c .outcome .monitor .hall) ++ drop reportLength out
 settled-report true h s used out c e w = rw e refl
 settled-report false h s used out c e w = not-both false (ap (λ (x : Result). writesReport (x .outcome .answer)) (sym e) ∙ w) refl
 

@@ -2,16 +2,17 @@
 -- another number. Assumes nothing.
 use mathlib.Core.Path.{_≡_, refl, sym, ap, _∙_}
 use mathlib.Core.Bool.{Bool, true, false, cond, _&&_}
-use mathlib.Core.List.{List, [], _++_}
+use mathlib.Core.List.{List}
 use mathlib.Core.Logic.{inl}
-use Prim.Native.Nat.{ℕ, zero, suc, _+_, _-_, _*_, _^_, _<_, _≤_}
+use Prim.Native.Nat.{ℕ, _+_, _-_, _*_, _^_, _<_, _≤_}
 use native.Mathlib.Nat.{add-sub-cancel-left}
 use native.Mathlib.Omega.{arith}
 use borrow.Author.Tests.{eqb-true, ltb-true, ltb-false, lt-ltb, le-ltb}
 use lib.Dec.{eqb, ltb}
 use lib.ListN.{length, getD, take, drop, replicate}
-use Rattle.bits.proofs.Yes.{and-left, and-right, not-both}
 use Rattle.bits.specs.Bit.{wordBits, every}
+use Rattle.bits.proofs.Every.{every-same}
+use Rattle.bits.proofs.Yes.{and-left, and-right, not-both}
 use Rattle.cycle.specs.Size.{stringCount, manifoldCount, lastCount}
 use Rattle.cycle.specs.Map.{masksOf, mapped}
 use Rattle.cycle.specs.Hall.{noSample, pastString, stringOf, stepped}
@@ -35,11 +36,6 @@ use Rattle.feed.proofs.Records.Tables.{table-at}
 use Rattle.feed.proofs.Records.TurnedWords.{quiet-turned, turned-at}
 
 -- ---- the samples of a record
-
-every-same : (n : ℕ) (f g : ℕ → Bool) → ((i : ℕ) → i < n → f i ≡ g i) → every n f ≡ every n g
-unfolding every
-every-same zero f g e = refl
-every-same (suc n) f g e = rw (every-same n f g (λ i b. e i (omega arith)), e n (omega arith))
 
 -- string s finds nothing, by the bytes as they stand
 abbrev pub quietAt : List ℕ → List ℕ → List StringState → ℕ → Bool

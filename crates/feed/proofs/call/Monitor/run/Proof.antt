@@ -247,7 +247,8 @@ returns-2 c =
     let at-turn = turning (c .before) in
     let j = joined at-turn in
     let t = rw rest-whole at (at-turn .turn .ensures) in
-    rw (put-rest (j .before .before .loop .written) (j .if2 .out) (left at-turn) (still-within j), ← same-run (j .before .before .before .before))
+    let before = j .before .before in
+    rw (put-rest (before .loop .written) (j .if2 .out) (left at-turn) (still-within j), ← same-run (before .before .before))
     (loop-leaves _ _ _ _ _ _ _ _ _ (loops j) (at-turn .turn .result) (at-turn .turn .last .1 .0) (left at-turn)
     (still-room j) t (not-true (at-turn .turn .result .settled) (c .if4 .taken)))
 
