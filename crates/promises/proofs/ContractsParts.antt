@@ -4,6 +4,7 @@ use mathlib.Core.Path.{_≡_}
 use mathlib.Core.List.{[]}
 use lib.ListN.{length}
 use denote.Ref.{now}
+use lib.Bits.{bitAnd}
 use Rattle.bits.specs.Bit.{bit, withBit}
 use Rattle.bits.specs.Bit as bits
 use Rattle.cycle.specs.Size.{stringCount, manifoldCount, moduleCount}
@@ -14,6 +15,8 @@ use Rattle.cycle.specs.Records.{minor, major}
 use Rattle.cycle.specs.Numbers as numbers
 use Rattle.cycle.specs.Hall.{freshHall, started, minorTaken, majorTaken, bothWays}
 use Rattle.cycle.specs.Calm as calm
+use Rattle.cycle.specs.Leak as leak
+use Rattle.cycle.specs.Words.{leakWord}
 use Rattle.feed.specs.Bytes.{two, four, inTwo, inFour, putOver}
 use Rattle.feed.specs.Masks.{masksOfBytes}
 use Rattle.feed.specs.Format.{sumOf}
@@ -41,6 +44,10 @@ use Rattle.cycle.proofs.number.judged as judged
 use Rattle.cycle.proofs.number.follows as follows
 use Rattle.cycle.proofs.string.StringState.«is_quiet» as string-is-quiet
 use Rattle.cycle.proofs.calm.«all_calm» as all-calm
+use Rattle.cycle.proofs.leak.cold as cold
+use Rattle.cycle.proofs.leak.«leak_word» as leak-word
+use Rattle.cycle.proofs.calm.«finds_none» as finds-none
+use Rattle.cycle.proofs.hall.Hall.«kept_all» as hall-kept-all
 use Rattle.cycle.proofs.banks.Bank.unknown as bank-unknown
 use Rattle.cycle.proofs.banks.«weighed_all» as weighed-all
 use Rattle.cycle.proofs.requests.«both_ways» as both-ways
@@ -112,6 +119,18 @@ string-is-quiet-is κs a x w p = p
 
 pub all-calm-is : Says all-calm.ended all-calm.Reads.Post (λ κs a x w. x ≡ calm.allCalm stringCount (a .0))
 all-calm-is κs a x w p = p
+
+pub cold-is : Says cold.ended cold.Reads.Post (λ κs a x w. x ≡ leak.cold (a .0))
+cold-is κs a x w p = p
+
+pub leak-word-is : Says leak-word.ended leak-word.Reads.Post (λ κs a x w. x ≡ bitAnd (a .0) (leakWord (a .1 .0)))
+leak-word-is κs a x w p = p
+
+pub finds-none-is : Says finds-none.ended finds-none.Reads.Post (λ κs a x w. x ≡ calm.findsNone (a .1 .1 .0) (a .1 .1 .1 .0) (a .1 .1 .1 .1 .0) (a .0) (a .1 .0))
+finds-none-is κs a x w p = p
+
+pub hall-kept-all-is : Says hall-kept-all.ended hall-kept-all.Reads.Post (λ κs a x w. x ≡ calm.keptAll (a .1 .0) (a .0))
+hall-kept-all-is κs a x w p = p
 
 pub bank-unknown-is : Says bank-unknown.ended bank-unknown.Reads.Post (λ κs a x w. x ≡ noBank)
 bank-unknown-is κs a x w p = p
