@@ -1,10 +1,12 @@
 // The record format: marks, lengths, sum, reserved bits, quantities; and what the bytes at the front of the reader are.
 ghost use mathlib.Core.Path.{_≡_};
+ghost use mathlib.Core.Bool.{cond};
 ghost use Prim.Native.Nat.{_+_, _≤_};
 ghost use lib.ListN.{length};
 ghost use Rattle.feed.specs.Size.{minorLength, majorLength, quantitiesLength};
 ghost use Rattle.feed.specs.Format.{markOf, lengthOf, lengthMarked, sumOf, reservedZero, twoRight, quantitiesRight};
 ghost use Rattle.feed.specs.Format.{goodMinor, goodMajor, goodKind, fullLook, look};
+ghost use Rattle.feed.specs.declared.format.Look.the-variants.{Loses, Settles};
 use crate::bytes::two_at;
 use crate::bytes::wide16;
 use crate::size::MAJOR_LENGTH;
@@ -146,7 +148,7 @@ fn good_major(s: &[u8]) -> bool
 }
 
 // Is the full record of this kind at the front good?
-fn good(k: Kind, s: &[u8]) -> bool
+pub(crate) fn good(k: Kind, s: &[u8]) -> bool
     requires { ⌜ lengthOf k ≤ length (now s) ⌝ }
     ensures { λ r. ⌜ r ≡ goodKind k (now (s .entry)) ⌝ }
 {
@@ -156,17 +158,25 @@ fn good(k: Kind, s: &[u8]) -> bool
     }
 }
 
-// What a mark of this kind at the front shows.
+// What a full record of this kind shows.
+fn judged(k: Kind, right: bool) -> Look
+    ensures { λ r. ⌜ r ≡ cond right (Settles k) Loses ⌝ }
+{
+    if right { Look::Settles(k) } else { Look::Loses }
+}
+
+// What a mark of this kind at the front shows. Its own match instead of `good`: the tests then have two callers each, `good` stays small,
+// and the search for records in a piece has it inlined.
 fn full_look(k: Kind, s: &[u8]) -> Look
     ensures { λ r. ⌜ r ≡ fullLook k (now (s .entry)) ⌝ }
 {
     if s.len() < length_of(k) {
         return Look::Waits;
     }
-    if good(k, s) {
-        return Look::Settles(k);
+    match k {
+        Kind::Minor => judged(k, good_minor(s)),
+        Kind::Major => judged(k, good_major(s)),
     }
-    Look::Loses
 }
 
 // What the bytes at the front show.

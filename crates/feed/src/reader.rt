@@ -1,14 +1,16 @@
-// The reader: what is held, and bytes of the piece taken one by one up to the first record settled.
+// The reader: what is held, and bytes of the piece taken one by one up to the first record settled. The piece is looked at where it lies as
+// far as that can be.
 ghost use mathlib.Core.Path.{_≡_};
-ghost use mathlib.Core.Bool.{true};
-ghost use mathlib.Core.List.{_++_};
-ghost use Prim.Native.Nat.{_-_, _≤_, _<_};
+ghost use mathlib.Core.List.{[], _++_};
+ghost use Prim.Native.Nat.{_+_, _-_, _≤_};
 ghost use lib.ListN.{length, take, drop, replicate};
 ghost use Rattle.feed.specs.Size.{storeLength, mostHeld};
 ghost use Rattle.feed.specs.Reader.{store, heldCount};
 ghost use Rattle.feed.specs.Settled.{frontOf};
-ghost use Rattle.feed.specs.Inside.Finding.{calmOf, Skips, StopsAt, filled, Finds};
+ghost use Rattle.feed.specs.Inside.Finding.{calmOf, noise, allNoise, filled, heldFrom, Searched, Finds};
 use crate::format::Look;
+use crate::format::Mark;
+use crate::format::good;
 use crate::format::length_marked;
 use crate::format::length_of;
 use crate::format::look_at;
@@ -32,6 +34,9 @@ pub struct Found {
     pub count: usize,
     pub used: usize,
 }
+
+// So many bytes are passed over at once where none of them can begin a mark.
+const STRIDE: usize = 16;
 
 // Looks from the front until nothing more is dropped.
 pub fn find_front(s: &[u8]) -> Front
@@ -134,18 +139,32 @@ pub(crate) fn held_count(count: usize) -> usize
     if MOST_HELD < count { 0 } else { count }
 }
 
-// Where the next byte is taken: where nothing is held, behind those that cannot begin a mark, but at the last byte at the latest.
-fn skipped(piece: &[u8], from: usize, held: usize) -> usize
-    requires { ⌜ from < length (now piece) ⌝ }
-    ensures { λ r. ⌜ Skips held (now (piece .entry)) from r ⌝ }
-    ensures { λ r. ⌜ StopsAt held (now (piece .entry)) r ⌝ }
+// Can none of these bytes begin a mark? The loop has no way out before its end, so that the compiler compares many bytes at once.
+fn all_noise(s: &[u8]) -> bool
+    ensures { λ r. ⌜ r ≡ allNoise (now (s .entry)) ⌝ }
 {
-    if 0 < held {
-        return from;
+    let mut noise = true;
+    let mut i: usize = 0;
+    while i < s.len() {
+        noise = noise & (s[i] != MARK);
+        i += 1;
     }
-    let last = piece.len() - 1;
+    noise
+}
+
+// The first place from `from` on whose byte can begin a mark, or the end of the piece.
+fn next_mark(piece: &[u8], from: usize) -> usize
+    requires { ⌜ from ≤ length (now piece) ⌝ }
+    ensures { λ r. ⌜ r ≡ from + noise (drop from (now (piece .entry))) ⌝ }
+{
     let mut at = from;
-    while at < last {
+    while STRIDE <= piece.len() - at {
+        if !all_noise(&piece[at..at + STRIDE]) {
+            break;
+        }
+        at += STRIDE;
+    }
+    while at < piece.len() {
         if piece[at] == MARK {
             return at;
         }
@@ -154,7 +173,8 @@ fn skipped(piece: &[u8], from: usize, held: usize) -> usize
     at
 }
 
-// By way of the store: settles what it holds, then takes bytes of the piece from `from` on.
+// By way of the store, as long as it holds a byte that came before the piece: settles what it holds, then takes bytes of the piece from
+// `from` on. Where it holds none any more, what it holds stands in the piece from `at` on, and no record is found yet.
 fn fill(b: &mut [u8], count: usize, piece: &[u8], from: usize) -> Found
     requires { ⌜ length (now b) ≡ storeLength ⌝ }
     requires { ⌜ (count ≤ mostHeld) × (now b ≡ store (take count (now b))) × (from ≤ length (now piece)) ⌝ }
@@ -171,7 +191,16 @@ fn fill(b: &mut [u8], count: usize, piece: &[u8], from: usize) -> Found
             shift(&mut b[..n], at);
             n -= at;
         }
-        if 0 < long {
+        if n <= used - from {
+            return Found {
+                long: 0,
+                held: false,
+                at: used - n,
+                count: n,
+                used: used,
+            };
+        }
+        if (0 < long) | (used == piece.len()) {
             return Found {
                 long: long,
                 held: true,
@@ -180,19 +209,9 @@ fn fill(b: &mut [u8], count: usize, piece: &[u8], from: usize) -> Found
                 used: used,
             };
         }
-        if used == piece.len() {
-            return Found {
-                long: 0,
-                held: true,
-                at: 0,
-                count: n,
-                used: used,
-            };
-        }
-        let next = skipped(piece, used, n);
-        b[n] = piece[next];
+        b[n] = piece[used];
         n += 1;
-        used = next + 1;
+        used += 1;
         let k = calm(&b[..n], piece.len() - used);
         copy(&mut b[n..n + k], &piece[used..used + k]);
         n += k;
@@ -200,49 +219,91 @@ fn fill(b: &mut [u8], count: usize, piece: &[u8], from: usize) -> Found
     }
 }
 
-// The next record. Where nothing is held, bytes that cannot begin a mark are passed over in the piece itself, and a good record that stands
-// there whole is left in place; everything else goes by way of the store.
+// The bytes of the piece from `at` to `end` are those held, a record of `long` bytes at their front: they go to the store, which is empty.
+fn hold(b: &mut [u8], piece: &[u8], at: usize, end: usize, long: usize) -> Found
+    requires { ⌜ now b ≡ store [] ⌝ }
+    requires { ⌜ (at ≤ end) × (end ≤ length (now piece)) × (end - at ≤ storeLength) ⌝ }
+    ensures { λ r. ⌜ r ≡ heldFrom at end long ⌝ }
+    ensures { λ r. ⌜ now (b .exit) ≡ store (take (end - at) (drop at (now (piece .entry)))) ⌝ }
+{
+    let n = end - at;
+    copy(&mut b[..n], &piece[at..end]);
+    Found {
+        long: long,
+        held: true,
+        at: 0,
+        count: n,
+        used: end,
+    }
+}
+
+// In the piece itself, where the bytes held are those from `from` to `taken` and the store is empty: what is dropped, with a lost record or
+// by itself, is passed over.
+fn search(b: &mut [u8], piece: &[u8], from: usize, taken: usize) -> Found
+    requires { ⌜ now b ≡ store [] ⌝ }
+    requires { ⌜ (from ≤ taken) × (taken ≤ length (now piece)) × (taken - from ≤ storeLength) ⌝ }
+    ensures { λ r. ⌜ Searched (now (piece .entry)) from taken r (now (b .exit)) ⌝ }
+{
+    let mut at = from;
+    let mut high = taken; // no byte from here on is taken yet
+    while at < piece.len() {
+        if piece[at] != MARK {
+            at = next_mark(piece, at + 1);
+            continue;
+        }
+        if piece.len() - at < MARK_LENGTH {
+            break;
+        }
+        match mark_of(piece[at + 1]) {
+            Mark::NoMark => {
+                at += 1;
+            }
+            Mark::Of(k) => {
+                let long = length_of(k);
+                if piece.len() - at < long {
+                    break;
+                }
+                let end = at + long;
+                if good(k, &piece[at..end]) {
+                    if end < high {
+                        return hold(b, piece, at, high, long);
+                    }
+                    return Found {
+                        long: long,
+                        held: false,
+                        at: at,
+                        count: 0,
+                        used: end,
+                    };
+                }
+                if high < end {
+                    high = end;
+                }
+                at += 1; // a record may begin at the next byte
+            }
+        }
+    }
+    hold(b, piece, at, piece.len(), 0)
+}
+
+// The next record. Bytes are copied only where they have to wait for the next piece, where some came with an earlier one, or where bytes
+// behind the record are taken already.
 pub(crate) fn find(b: &mut [u8], count: usize, piece: &[u8], from: usize) -> Found
     requires { ⌜ length (now b) ≡ storeLength ⌝ }
     requires { ⌜ (count ≤ mostHeld) × (now b ≡ store (take count (now b))) × (from ≤ length (now piece)) ⌝ }
     ensures { λ r. ⌜ Finds (take count (now (b .entry))) (now (piece .entry)) from r (now (b .exit)) ⌝ }
 {
-    if 0 < count {
-        return fill(b, count, piece, from);
-    }
     let mut at = from;
-    while at < piece.len() {
-        if piece[at] != MARK {
-            at += 1;
-            continue;
+    let mut taken = from;
+    if 0 < count {
+        let f = fill(b, count, piece, from);
+        if f.held {
+            return f;
         }
-        match look_at(&piece[at..]) {
-            Look::Drops => {
-                at += 1;
-            }
-            Look::Waits => {
-                return fill(b, 0, piece, at);
-            }
-            Look::Loses => {
-                return fill(b, 0, piece, at);
-            }
-            Look::Settles(k) => {
-                let long = length_of(k);
-                return Found {
-                    long: long,
-                    held: false,
-                    at: at,
-                    count: 0,
-                    used: at + long,
-                };
-            }
-        }
+        let n = f.count;
+        clear(&mut b[..n]);
+        at = f.at;
+        taken = f.used;
     }
-    Found {
-        long: 0,
-        held: true,
-        at: 0,
-        count: 0,
-        used: at,
-    }
+    search(b, piece, at, taken)
 }

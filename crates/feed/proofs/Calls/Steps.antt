@@ -33,8 +33,7 @@ use Rattle.feed.specs.declared.format.Kind.the-variants.{Minor, Major}
 use Rattle.feed.specs.declared.format.Look.the-variants.{Settles}
 use Rattle.feed.proofs.Records.Lengths.{shows-settles}
 use Rattle.feed.proofs.Records.Told.{wire-of, kind-of}
-use Rattle.feed.proofs.Records.Whole.{settled-sized, settled-kind}
-use Rattle.feed.proofs.Reading.InPlace.{taken-settles}
+use Rattle.feed.proofs.Records.Whole.{settled-sized, settled-kind, taken-settles}
 use Rattle.feed.proofs.Records.Goods.{mark-of, settles-whole}
 
 -- ---- whole records

@@ -1,155 +1,153 @@
--- What the reader finds: by way of the store, or in the piece behind bytes that cannot begin a mark. Assumes nothing.
-use Prim.Native.Nat.{ℕ, suc, _+_, _-_, _≤_, _<_}
-use mathlib.Core.Path.{_≡_, refl, sym, ap, _∙_}
-use mathlib.Core.List.{List, [], _∷_}
-use mathlib.Core.Bool.{true, false, not}
-use native.Mathlib.Numerals.{add-one}
+-- What the reader finds: by way of the store as long as older bytes are held, and else in the piece. Assumes nothing.
+use Prim.Native.Nat.{ℕ, _+_, _-_, _≤_}
+use mathlib.Core.Path.{_≡_, refl, sym, ap, ap₂, subst, _∙_}
+use mathlib.Core.Bool.{Bool, true, false, not, _&&_}
+use mathlib.Core.List.{List, [], _++_}
 use native.Mathlib.Omega.{arith}
-use borrow.Author.Tests.{ne-eqb}
-use lib.ListN.{length, getD, take, drop, length-drop}
-use lib.Seq.{drop-cons, drop-length, drop-drop}
-use Rattle.bits.proofs.Yes.{not-both}
-use Rattle.feed.specs.Format.{lengthOf, look, settles, lengthShown}
-use Rattle.feed.specs.Reader.{settle, reads, store, Stop}
-use Rattle.feed.specs.Inside.Finding.{junkBy, junk, inPlace, Finds}
-use Rattle.feed.specs.declared.format.Kind.{Kind}
-use Rattle.feed.specs.declared.format.Look.{Look}
-use Rattle.feed.specs.declared.format.Look.the-variants.{Drops, Waits, Loses, Settles}
+use borrow.Author.Tests.{ltb-true, ltb-false, lt-leb, le-leb}
+use lib.Dec.{ltb, leb}
+use lib.ListN.{length, take, drop, replicate, length-take, length-append, length-drop}
+use lib.Seq.{drop-drop, length-take-le}
+use Rattle.bits.proofs.Yes.{not-both, and-true, and-false}
+use Rattle.feed.specs.Size.{storeLength}
+use Rattle.feed.specs.Reader.{reads, store, Stop}
+use Rattle.feed.specs.Inside.Finding.{fills, foundBy, filled, FoundAt, alone, readsOn, Searched, Finds}
 use Rattle.feed.specs.declared.reader.Found.{Found}
-use Rattle.feed.proofs.Records.Whole.{settled-sized}
-use Rattle.feed.proofs.Reading.Reads.{reads-end}
-use Rattle.feed.proofs.Reading.InPlace.{reads-junk, reads-settles, taken-settles}
-use Rattle.feed.proofs.Reading.Turns.{foundOf, foundBy}
+use Rattle.feed.proofs.Records.Lengths.{by-test}
+use Rattle.feed.proofs.Reading.Fronts.{settle-short}
+use Rattle.feed.proofs.Reading.Stores.{store-fits, store-cleared}
+use Rattle.feed.proofs.Reading.Reads.{reads-whole}
+use Rattle.feed.proofs.Reading.Fills.{fills-reads, fills-parts, rest-long, parts-taken, fills-older}
 
--- what is found by way of the store
-module _ (h piece : List ℕ) (from : ℕ) (s : Stop) (f : Found) (kept : List ℕ) where
-  pub finds-filled : s ≡ reads h (drop from piece)
-      → f ≡ foundOf (length piece) s → kept ≡ store (s .left) → inPlace h (drop from piece) ≡ false → Finds h piece from f kept
-  finds-filled e ef ek z =
-      let g : f ≡ foundOf (length piece) (reads h (drop from piece)) = ef ∙ ap (foundOf (length piece)) e in
-      record {
+-- ---- the search in the piece can begin: the bytes held are those of the piece from `at` to `taken`
+
+pub record Ready (h piece : List ℕ) (from at taken : ℕ) : Type 0 where
+  pub since : from ≤ at
+  pub on : at ≤ taken
+  pub within : taken ≤ length piece
+  pub fits : taken - at ≤ storeLength
+  pub same : reads h (drop from piece) ≡ readsOn piece at taken
+
+-- nothing is held
+pub ready-none : (h piece : List ℕ) (from : ℕ) → h ≡ [] → from ≤ length piece → Ready h piece from from from
+ready-none h piece from e w =
+    let z : 0 ≡ from - from = omega arith in
+    record {
+      since = omega arith;
+      on = omega arith;
+      within = w;
+      fits = omega arith;
+      same = ap (λ (l : List ℕ). reads l (drop from piece)) (e ∙ ap (λ (n : ℕ). take n (drop from piece)) z);
+    }
+
+-- reading makes no bytes
+left-within : (h p : List ℕ) → length ((reads h p) .left) + length ((reads h p) .rest) ≤ length h + length p
+left-within h p =
+    let n = settle-short (h ++ p) in
+    let e = sym (length-append ((reads h p) .left) ((reads h p) .rest)) ∙ ap length (reads-whole h p .0) in
+    omega (arith, length-append h p)
+
+pub ready-finds : (h piece : List ℕ) (from at taken : ℕ) (f : Found) (kept : List ℕ) → Ready h piece from at taken
+    → Searched piece at taken f kept → Finds h piece from f kept
+ready-finds h piece from at taken f kept r found =
+    let s = readsOn piece at taken in
+    let a = r .since in
+    let b = r .on in
+    let w = r .within in
+    let n = left-within (take (taken - at) (drop at piece)) (drop taken piece) in
+    let i = length-take (taken - at) (drop at piece) in
+    let j = length-drop at piece in
+    let k = length-drop taken piece in
+    let l = length-drop from piece in
+    let yes : leb (length (s .left)) (length (drop from piece) - length (s .rest)) ≡ true =
+    le-leb (length (s .left)) (length (drop from piece) - length (s .rest)) (omega arith) in
+    let here : alone s ≡ (alone s && leb (length (s .left)) (length (drop from piece) - length (s .rest))) =
+    sym (and-true (alone s)) ∙ ap (λ (t : Bool). alone s && t) (sym yes) in
+    rw (r .same) (subst (λ (t : Bool). FoundAt s t piece f kept) here found)
+
+-- ---- what filling the store comes to
+
+module _ (h piece : List ℕ) (from : ℕ) (w : from ≤ length piece) (f : Found) (kept : List ℕ) (ef : f ≡ (filled h piece from) .found)
+    (ek : kept ≡ (filled h piece from) .kept) where
+  abbrev stop : Stop
+  stop = fills 0 h (drop from piece)
+
+  -- a byte is held that came before the piece
+  abbrev older : Bool
+  older = ltb (length piece - from - length (stop .rest)) (length (stop .left))
+
+  found-so : (t : Bool) → older ≡ t → f ≡ foundBy t (length piece) stop
+  found-so t e = ef ∙ ap (λ (x : Bool). foundBy x (length piece) (fills 0 h (drop from piece))) e
+
+  held-finds : older ≡ true → Finds h piece from f kept
+  held-finds t =
+      let s = fills 0 h (drop from piece) in
+      let g = found-so true t in
+      let d = length-drop from piece in
+      let l = ltb-true (length piece - from - length (s .rest)) (length (s .left)) t in
+      let e : reads h (drop from piece) ≡ s = fills-older 0 h (drop from piece) (omega arith) in
+      let no : leb (length (s .left)) (length (drop from piece) - length (s .rest)) ≡ false =
+      lt-leb (length (s .left)) (length (drop from piece) - length (s .rest)) (omega arith) in
+      rw e
+      (record {
         long = ap (λ (x : Found). x .long) g;
         used = ap (λ (x : Found). x .used) g;
-        place = ap (λ (x : Found). x .held) g ∙ sym (ap not z);
-        inStore =
-            λ q. (ap (λ (x : Found). x .at) g, ap (λ (x : Found). x .count) g, ek ∙ ap (λ (x : Stop). store (x .left)) e);
+        place = ap (λ (x : Found). x .held) g ∙ sym (ap (λ (t : Bool). not (alone s && t)) no ∙ ap not (and-false (alone s)));
+        inStore = λ q. (ap (λ (x : Found). x .at) g, ap (λ (x : Found). x .count) g, ek);
         inPiece = λ q. not-both (f .held) (ap (λ (x : Found). x .held) g) q;
-      }
+      })
 
--- something is held
-pub held-place : (h p : List ℕ) → 0 < length h → inPlace h p ≡ false
-held-place h p z = simp (ne-eqb (length h) 0 (λ q. omega arith))
+  pub filled-finds : f .held ≡ true → Finds h piece from f kept
+  filled-finds q = by-test older held-finds (λ t. not-both (f .held) q (ap (λ (x : Found). x .held) (found-so false t)))
 
-pub none-held : (n : ℕ) (b : List ℕ) → n ≤ 0 → take n b ≡ []
-none-held n b h = let e : n ≡ 0 = omega arith in rw e refl
+  -- what is held is counted, and fits
+  count-so : (t : Bool) → older ≡ t → f .count ≡ length (stop .left)
+  count-so true t = ap (λ (x : Found). x .count) (found-so true t)
+  count-so false t = ap (λ (x : Found). x .count) (found-so false t)
 
-pub finds-none : (n : ℕ) (b piece : List ℕ) (from : ℕ) (f : Found) (kept : List ℕ) → n ≤ 0 → Finds [] piece from f kept
-    → Finds (take n b) piece from f kept
-finds-none n b piece from f kept h t = rw (none-held n b h) t
+  module _ (long : length kept ≡ storeLength) where
+    left-fits : length (stop .left) ≤ storeLength
+    left-fits = store-fits (stop .left) (sym (ap length ek) ∙ long)
 
--- the bytes at the front that cannot begin a mark
-junk-drops : (b : ℕ) (p : List ℕ) → look (b ∷ p) ≡ Drops → junk (b ∷ p) ≡ suc (junk p)
-unfolding junk
-junk-drops b p e = ap (λ (o : Look). junkBy o (suc (junk p))) e
+    pub count-within : f .count ≤ storeLength
+    count-within = let c = count-so older refl in let l = left-fits in omega arith
 
-junk-stops : (p : List ℕ) → (look p ≡ Drops → ⊥) → junk p ≡ 0
-unfolding junk
-junk-stops [] h = refl
-junk-stops (b ∷ p) h = by (look (b ∷ p)) h
-  where
-    by : (o : Look) → (o ≡ Drops → ⊥) → junkBy o (suc (junk p)) ≡ 0
-    by Drops h = absurd (h refl)
-    by Waits h = refl
-    by Loses h = refl
-    by (Settles k) h = refl
+    -- the store is cleared
+    pub cleared-empty : (y : List ℕ) → y ≡ replicate (length (take (f .count) kept)) 0 → y ++ drop (f .count) kept ≡ store []
+    cleared-empty y e =
+        let c = count-so older refl in
+        let n = length-take-le (f .count) kept (let m = count-within in omega arith) in
+        ap (λ (l : List ℕ). l ++ drop (f .count) kept) (e ∙ ap (λ (i : ℕ). replicate i 0) n)
+        ∙ ap (λ (l : List ℕ). replicate (f .count) 0 ++ drop (f .count) l) ek
+        ∙ store-cleared (stop .left) (f .count) (sym c) count-within
 
--- from `from` to `at` no byte can begin a mark
-pub record Passed (piece : List ℕ) (from at : ℕ) : Type 0 where
-  pub within : at ≤ length piece
-  pub same : reads [] (drop at piece) ≡ reads [] (drop from piece)
-  pub gone : at + junk (drop at piece) ≡ from + junk (drop from piece)
-
-pub passed-none : (piece : List ℕ) (from : ℕ) → from ≤ length piece → Passed piece from from
-passed-none piece from h = record { within = h; same = refl; gone = refl }
-
-module _ (piece : List ℕ) (from at : ℕ) (t : Passed piece from at) where
-  pub passed-more : at < length piece → look (drop at piece) ≡ Drops → Passed piece from (at + 1)
-  passed-more h e =
-      let d : drop at piece ≡ getD piece at 0 ∷ drop (at + 1) piece
-      = drop-cons piece at 0 h ∙ ap (λ (n : ℕ). getD piece at 0 ∷ drop n piece) (sym (add-one at)) in
-      let l : look (getD piece at 0 ∷ drop (at + 1) piece) ≡ Drops = sym (ap look d) ∙ e in
-      let j : junk (drop at piece) ≡ suc (junk (drop (at + 1) piece)) = ap junk d ∙ junk-drops _ _ l in
-      record {
-        within = omega arith;
-        same = sym (reads-junk _ _ l) ∙ ap (reads []) (sym d) ∙ t .same;
-        gone = omega (arith, t .gone);
-      }
-
-  -- where looking stops
-  module _ (z : look (drop at piece) ≡ Drops → ⊥) where
-    passed-at : at ≡ from + junk (drop from piece)
-    passed-at = let j = junk-stops (drop at piece) z in omega (arith, t .gone)
-
-    passed-place : inPlace [] (drop from piece) ≡ settles (look (drop at piece))
-    passed-place =
-        ap (λ (l : List ℕ). settles (look l))
-        (drop-drop (junk (drop from piece)) from piece ∙ ap (λ (n : ℕ). drop n piece) (sym passed-at))
-
-    -- the rest goes by way of the store
-    pub passed-filled : settles (look (drop at piece)) ≡ false → (f : Found) (kept : List ℕ)
-        → f ≡ foundOf (length piece) (reads [] (drop at piece))
-        → kept ≡ store ((reads [] (drop at piece)) .left) → Finds [] piece from f kept
-    passed-filled y f kept ef ek = finds-filled [] piece from (reads [] (drop at piece)) f kept (t .same) ef ek (passed-place ∙ y)
-
-  no-drop : (o : Look) → look (drop at piece) ≡ o → (o ≡ Drops → ⊥) → look (drop at piece) ≡ Drops → ⊥
-  no-drop o e h q = h (sym e ∙ q)
-
-  pub passed-waits : look (drop at piece) ≡ Waits → (f : Found) (kept : List ℕ) → f ≡ foundOf (length piece) (reads [] (drop at piece))
-      → kept ≡ store ((reads [] (drop at piece)) .left) → Finds [] piece from f kept
-  passed-waits e =
-      passed-filled (no-drop Waits e (λ q. let z : _≡_ {A = ℕ} 0 1 = cc in omega arith)) (ap settles e)
-
-  pub passed-loses : look (drop at piece) ≡ Loses → (f : Found) (kept : List ℕ) → f ≡ foundOf (length piece) (reads [] (drop at piece))
-      → kept ≡ store ((reads [] (drop at piece)) .left) → Finds [] piece from f kept
-  passed-loses e =
-      passed-filled (no-drop Loses e (λ q. let z : _≡_ {A = ℕ} 0 1 = cc in omega arith)) (ap settles e)
-
-  pub passed-end : at ≡ length piece → (kept : List ℕ) → kept ≡ store []
-      → Finds [] piece from (foundBy 0 0 at) kept
-  unfolding look settle
-  passed-end e kept ek =
-      let d : drop at piece ≡ [] = ap (λ (n : ℕ). drop n piece) e ∙ drop-length piece in
-      let r : reads [] (drop at piece) ≡ record { left = []; rest = [] } = ap (reads []) d ∙ reads-end [] in
-      let u : at ≡ length piece - 0 = omega arith in
-      let f : foundBy 0 0 at ≡ foundOf (length piece) (record { left = []; rest = [] })
-      = λ i. record { long = 0; held = true; at = 0; count = 0; used = u i } in
-      passed-waits (ap look d) _ kept (f ∙ sym (ap (foundOf (length piece)) r)) (ek ∙ sym (ap (λ (x : Stop). store (x .left)) r))
-
-  -- a good record stands whole in the piece
-  module _ (k : Kind) (e : look (drop at piece) ≡ Settles k) where
-    whole-fits : at + lengthOf k ≤ length piece
-    whole-fits =
-        let y = settled-sized (drop at piece) k e in
-        omega (arith, t .within, length-drop at piece)
-
-    pub passed-settles : (m : ℕ) → m ≡ lengthOf k → (kept : List ℕ) → kept ≡ store []
-        → Finds [] piece from (record { long = m; held = false; at = at; count = 0; used = at + m }) kept
-    passed-settles m em kept ek =
-        let n = lengthOf k in
-        let z = no-drop (Settles k) e (λ q. let z : _≡_ {A = ℕ} 0 1 = cc in omega arith) in
-        let w = whole-fits in
-        let r : reads [] (drop from piece) ≡ record { left = take n (drop at piece); rest = drop n (drop at piece) }
-        = sym (t .same) ∙ reads-settles (drop at piece) k e in
-        let u : length (drop n (drop at piece)) ≡ length piece - at - n = simp length-drop (omega arith) in
+    -- no older byte is held: the search goes on in the piece
+    pub filled-ready : f .held ≡ false → Ready h piece from (f .at) (f .used)
+    filled-ready q =
+        by-test older (λ t. not-both (f .held) (ap (λ (x : Found). x .held) (found-so true t)) q) (λ t.
+        let s = stop in
+        let g = found-so false t in
+        let p = drop from piece in
+        let parts = fills-parts 0 h p in
+        let n = length (s .left) in
+        let u = parts .taken in
+        let d = length-drop from piece in
+        let r = rest-long h p s parts in
+        let v = parts .within in
+        let m = left-fits in
+        let l = ltb-false (length piece - from - length (s .rest)) (length (s .left)) t in
+        let some : n ≤ u = omega arith in
+        let used : f .used ≡ from + u = ap (λ (x : Found). x .used) g ∙ omega arith in
+        let at : f .at ≡ from + (u - n) = ap (λ (x : Found). x .at) g ∙ omega arith in
+        let count : f .used - f .at ≡ n = omega arith in
+        let left : s .left ≡ take (f .used - f .at) (drop (f .at) piece) =
+        parts-taken h p s parts some ∙ ap₂ (λ (i : ℕ) (x : List ℕ). take i x) (sym count)
+        (drop-drop (u - n) from piece ∙ ap (λ (i : ℕ). drop i piece) (sym at)) in
+        let rest : s .rest ≡ drop (f .used) piece = parts .rest ∙ drop-drop u from piece ∙ ap (λ (i : ℕ). drop i piece) (sym used) in
         record {
-          long = em ∙ sym (ap (λ (x : Stop). lengthShown (look (x .left))) r ∙ ap lengthShown (taken-settles (drop at piece) k e));
-          used = sym (ap (λ (x : Stop). length piece - length (x .rest)) r ∙ omega (arith, u, em));
-          place = sym (ap not (passed-place z ∙ ap settles e));
-          inStore = λ q. not-both false q refl;
-          inPiece = λ q.
-              let there = ap (λ (x : Stop). x .left) r ∙ ap (λ (i : ℕ). take i (drop at piece)) (sym em) in
-              (passed-at z, refl, ek, there, omega (arith, w, em));
-        }
-
-    pub whole-within : (m : ℕ) → m ≡ lengthOf k → at + m ≤ length piece
-    whole-within m em = let w = whole-fits in omega arith
+          since = omega arith;
+          on = omega arith;
+          within = omega arith;
+          fits = omega arith;
+          same = fills-reads 0 h p ∙ ap₂ reads left rest;
+        })

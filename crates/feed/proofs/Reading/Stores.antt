@@ -42,6 +42,15 @@ store-put l y n k e f h =
     rw (take-at l (replicate (storeLength - length l) 0) n e, drop-at l (replicate (storeLength - length l) 0) n e, j, drop-replicate)
     (sym (append-assoc l y _))
 
+-- all that is held cleared
+pub store-cleared : (l : List ℕ) (n : ℕ) → length l ≡ n → n ≤ storeLength → replicate n 0 ++ drop n (store l) ≡ store []
+store-cleared l n e h =
+    let m : n + (storeLength - length l) ≡ storeLength = omega arith in
+    rw (drop-at l (replicate (storeLength - length l) 0) n e, replicate-append-replicate, m)
+
+pub store-fits : (l : List ℕ) → length (store l) ≡ storeLength → length l ≤ storeLength
+store-fits l e = let m = simp (length-append, length-replicate) at e in omega arith
+
 -- the m places from n on, the last ones, cleared
 module _ (l y : List ℕ) (n m : ℕ) (e : length l ≡ storeLength) (f : n + m ≡ storeLength)
     (g : y ≡ replicate (length (take m (drop n l))) 0) where

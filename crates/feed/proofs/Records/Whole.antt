@@ -1,14 +1,15 @@
 -- Bytes that announce no more than is there do not wait, and a settled record stands there whole, with the length of its kind.
 -- Assumes nothing.
 use Prim.Native.Nat.{ℕ, _≤_, _<_}
-use mathlib.Core.Path.{_≡_, refl, sym}
+use mathlib.Core.Path.{_≡_, refl, sym, ap, _∙_}
 use mathlib.Core.Bool.{true}
 use mathlib.Core.List.{List}
-use mathlib.Core.Logic.{_⊎_, inl, inr}
+use mathlib.Core.Logic.{_⊎_, inl, inr, ⊎-elim}
 use native.Mathlib.Omega.{arith}
 use borrow.Author.Tests.{ne-eqb, le-ltb, ltb-false}
 use lib.Dec.{eqb, ltb}
-use lib.ListN.{length, getD}
+use lib.ListN.{length, getD, take, drop, take-append-drop}
+use lib.Seq.{length-take-le, getD-take}
 use Rattle.feed.specs.Size.{markByte, storeLength}
 use Rattle.feed.specs.Format.{markOf, lengthOf, lengthMarked, goodKind, fullLook, markedLook, look, settles, lengthShown}
 use Rattle.feed.specs.declared.format.Kind.{Kind}
@@ -16,7 +17,8 @@ use Rattle.feed.specs.declared.format.Mark.{Mark}
 use Rattle.feed.specs.declared.format.Mark.the-variants.{NoMark, Of}
 use Rattle.feed.specs.declared.format.Look.{Look}
 use Rattle.feed.specs.declared.format.Look.the-variants.{Drops, Waits, Loses, Settles}
-use Rattle.feed.proofs.Records.Lengths.{cond-by, mark-fits, shows-settles}
+use Rattle.feed.proofs.Records.Lengths.{cond-by, kind-long, mark-fits, shows-settles}
+use Rattle.feed.proofs.Records.Looks.{look-append}
 
 -- bytes that announce no more than is there do not wait
 full-enough : (k : Kind) (l : List ℕ) → lengthOf k ≤ length l → fullLook k l ≡ Waits → ⊥
@@ -78,3 +80,15 @@ settled-kind l k e = settled-all l k e .1
 -- a record that is shown stands there whole
 pub shown-sized : (l : List ℕ) → settles (look l) ≡ true → lengthShown (look l) ≤ length l
 shown-sized l t = let x = shows-settles (look l) t in rw (x .1) (settled-sized l (x .0) (x .1))
+
+-- and the record by itself settles
+pub taken-settles : (p : List ℕ) (k : Kind) → look p ≡ Settles k → look (take (lengthOf k) p) ≡ Settles k
+taken-settles p k e =
+    let l = take (lengthOf k) p in
+    let r = kind-long k in
+    let n : length l ≡ lengthOf k = length-take-le (lengthOf k) p (settled-sized p k e) in
+    let g : getD l 1 0 ≡ getD p 1 0 = getD-take (lengthOf k) p 1 0 (omega arith) in
+    let m : lengthMarked (markOf (getD l 1 0)) ≡ lengthOf k
+    = ap (λ (v : ℕ). lengthMarked (markOf v)) g ∙ ap lengthMarked (sym (settled-kind p k e)) in
+    ⊎-elim (λ w. absurd (enough l (omega arith) (omega arith) w)) (λ s. sym s ∙ ap look (take-append-drop (lengthOf k) p) ∙ e)
+    (look-append l (drop (lengthOf k) p))
