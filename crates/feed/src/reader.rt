@@ -237,8 +237,8 @@ fn hold(b: &mut [u8], piece: &[u8], at: usize, end: usize, long: usize) -> Found
     }
 }
 
-// In the piece itself, where those from `from` to `taken` are the bytes held and the store is empty: bytes that are dropped, by themselves or
-// with a lost record, are passed over.
+// In the piece itself, where the bytes held are those from `from` to `taken` and the store is empty: what is dropped, with a lost record or
+// by itself, is passed over.
 fn search(b: &mut [u8], piece: &[u8], from: usize, taken: usize) -> Found
     requires { ⌜ now b ≡ store [] ⌝ }
     requires { ⌜ (from ≤ taken) × (taken ≤ length (now piece)) × (taken - from ≤ storeLength) ⌝ }
@@ -279,7 +279,7 @@ fn search(b: &mut [u8], piece: &[u8], from: usize, taken: usize) -> Found
                 if high < end {
                     high = end;
                 }
-                at += 1; // only the first byte: a record may begin at the next
+                at += 1; // a record may begin at the next byte
             }
         }
     }

@@ -48,7 +48,8 @@ module _ (s : Stop) (piece : List ℕ) (from : ℕ) (b : List ℕ) (n used k : �
       }
 
   -- the same, as the parts of the code have it
-  pub turn-copy : (y : List ℕ) → y ≡ take (used + k - used) (drop used piece) → Turn s piece from (putMid n (n + k - n) b y) (n + k) (used + k)
+  pub turn-copy : (y : List ℕ) → y ≡ take (used + k - used) (drop used piece)
+      → Turn s piece from (putMid n (n + k - n) b y) (n + k) (used + k)
   turn-copy y g =
       rw (add-sub-cancel-left n k) (turn-calm y (g ∙ ap (λ (m : ℕ). take m (drop used piece)) (add-sub-cancel-left used k)))
 

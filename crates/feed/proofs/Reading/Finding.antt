@@ -11,7 +11,7 @@ use lib.Seq.{drop-drop, length-take-le}
 use Rattle.bits.proofs.Yes.{not-both, and-true, and-false}
 use Rattle.feed.specs.Size.{storeLength}
 use Rattle.feed.specs.Reader.{reads, store, Stop}
-use Rattle.feed.specs.Inside.Finding.{fills, foundBy, filled, FoundAt, alone, readsOn, Searched, inPlace, Finds}
+use Rattle.feed.specs.Inside.Finding.{fills, foundBy, filled, FoundAt, alone, readsOn, Searched, Finds}
 use Rattle.feed.specs.declared.reader.Found.{Found}
 use Rattle.feed.proofs.Records.Lengths.{by-test}
 use Rattle.feed.proofs.Reading.Fronts.{settle-short}

@@ -6,7 +6,7 @@ use mathlib.Core.Bool.{true, false}
 use mathlib.Core.List.{List, _++_}
 use mathlib.Core.Logic.{⊎-elim}
 use native.Mathlib.Omega.{arith}
-use borrow.Author.Tests.{eq-eqb, lt-ltb, le-ltb, eqb-true, eqb-false}
+use borrow.Author.Tests.{eq-eqb, lt-ltb, le-ltb, eqb-false}
 use lib.Dec.{eqb}
 use lib.ListN.{length, getD, take, drop, take-append-drop}
 use lib.Seq.{length-take-le, getD-take, take-take}
@@ -73,7 +73,8 @@ module _ (p : List ℕ) (k : Kind) (m : getD p 0 0 ≡ markByte) (e : Of k ≡ m
   decided : (o : Look) → look (take (lengthOf k) p) ≡ o → (o ≡ Waits → ⊥) → (n : ℕ) → lengthOf k ≤ n → look (take n p) ≡ o
   decided o d w n l =
       let a : take (lengthOf k) p ++ drop (lengthOf k) (take n p) ≡ take n p
-      = ap (λ (x : List ℕ). x ++ drop (lengthOf k) (take n p)) (sym (take-take (lengthOf k) n p l)) ∙ take-append-drop (lengthOf k) (take n p) in
+      = ap (λ (x : List ℕ). x ++ drop (lengthOf k) (take n p)) (sym (take-take (lengthOf k) n p l))
+      ∙ take-append-drop (lengthOf k) (take n p) in
       ⊎-elim (λ z. absurd (w (sym d ∙ z))) (λ s. ap look (sym a) ∙ s ∙ d) (look-append (take (lengthOf k) p) (drop (lengthOf k) (take n p)))
 
   -- it settles or is lost

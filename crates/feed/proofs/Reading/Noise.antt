@@ -1,8 +1,8 @@
 -- Bytes that cannot begin a mark: how many are at the front, and that they are passed over. Assumes nothing.
 use Prim.Native.Nat.{ℕ, zero, suc, _+_, _-_, _≤_, _<_}
-use mathlib.Core.Path.{_≡_, refl, sym, ap, ap₂, _∙_}
+use mathlib.Core.Path.{_≡_, refl, sym, ap, _∙_}
 use mathlib.Core.List.{List, [], _∷_}
-use mathlib.Core.Bool.{Bool, true, false, not, cond}
+use mathlib.Core.Bool.{true, false, not}
 use native.Mathlib.Numerals.{add-one}
 use native.Mathlib.Omega.{arith}
 use lib.Dec.{eqb}
@@ -11,7 +11,6 @@ use lib.Seq.{length-take-le, getD-take, drop-cons, drop-drop}
 use borrow.Author.Tests.{not-true, eq-eqb, ne-eqb}
 use Rattle.bits.proofs.Every.{every-at}
 use Rattle.feed.specs.Size.{markByte}
-use Rattle.feed.specs.Format.{look}
 use Rattle.feed.specs.Inside.Finding.{noise, allNoise}
 use Rattle.feed.proofs.Records.Lengths.{by-test}
 use Rattle.feed.proofs.Reading.InPlace.{cut, cut-drops, drops-one}
@@ -46,14 +45,15 @@ cut-noise (b ∷ p) n =
     ∙ ap (λ (m : ℕ). cut (n - m) (drop m (b ∷ p))) (sym (noise-other b p t)))
 
 -- where the first k bytes are such, the next mark is behind them
-pub noise-behind : (k : ℕ) (l : List ℕ) → k ≤ length l → ((i : ℕ) → i < k → eqb (getD l i 0) markByte ≡ false) → noise l ≡ k + noise (drop k l)
+noise-behind : (k : ℕ) (l : List ℕ) → k ≤ length l → ((i : ℕ) → i < k → eqb (getD l i 0) markByte ≡ false)
+    → noise l ≡ k + noise (drop k l)
 noise-behind zero l h e = let z : noise l ≡ 0 + noise l = omega arith in z
 noise-behind (suc k) [] h e = absurd (omega arith)
 noise-behind (suc k) (b ∷ l) h e =
     let i = noise-behind k l (omega arith) (λ i a. e (suc i) (omega arith)) in
     noise-other b l (e 0 (omega arith)) ∙ omega arith
 
-pub all-noise-behind : (k : ℕ) (l : List ℕ) → k ≤ length l → allNoise (take k l) ≡ true → noise l ≡ k + noise (drop k l)
+all-noise-behind : (k : ℕ) (l : List ℕ) → k ≤ length l → allNoise (take k l) ≡ true → noise l ≡ k + noise (drop k l)
 all-noise-behind k l h e =
     let n = length-take-le k l h in
     noise-behind k l h (λ i a.

@@ -1,14 +1,14 @@
 -- The search in the piece: what is passed over there is dropped, and what is found is what `reads` leaves. Assumes nothing.
 use Prim.Native.Nat.{ℕ, suc, _+_, _-_, _≤_, _<_}
 use mathlib.Core.Path.{_≡_, refl, sym, ap, ap₂, _∙_}
-use mathlib.Core.Bool.{true, false, not}
+use mathlib.Core.Bool.{true, false}
 use mathlib.Core.List.{List, [], _∷_}
 use mathlib.Core.Logic.{_⊎_, ⊎-elim}
 use native.Mathlib.Numerals.{add-one}
 use native.Mathlib.Omega.{arith}
 use borrow.Author.Tests.{ne-eqb, eq-eqb}
 use lib.ListN.{length, getD, take, drop, length-drop}
-use lib.Seq.{drop-cons, drop-drop, getD-drop, length-take-le, take-all}
+use lib.Seq.{drop-cons, drop-drop, getD-drop, length-take-le}
 use Rattle.bits.proofs.Yes.{not-both}
 use Rattle.feed.specs.Size.{markByte, markLength, storeLength}
 use Rattle.feed.specs.Format.{markOf, lengthOf, lengthMarked, goodKind, look, lengthShown}
@@ -17,7 +17,6 @@ use Rattle.feed.specs.Inside.Finding.{noise, heldFrom, FoundAt, alone, r
 use Rattle.feed.specs.declared.format.Kind.{Kind}
 use Rattle.feed.specs.declared.format.Mark.the-variants.{NoMark, Of}
 use Rattle.feed.specs.declared.format.Look.the-variants.{Drops, Waits, Loses, Settles}
-use Rattle.feed.specs.declared.reader.Found.{Found}
 use Rattle.feed.proofs.Records.Lengths.{below-or, kind-fits, kind-long}
 use Rattle.feed.proofs.Records.Whole.{long-look}
 use Rattle.feed.proofs.Reading.Found.{rest-whole}

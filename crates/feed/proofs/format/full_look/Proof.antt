@@ -40,7 +40,8 @@ returns-2 c =
     let at-if1 = told .before .before in
     let a = at-if1 .before .before .before .args in
     let h = rw (at-if1 .before .length-of .ensures) at (at-if1 .if1 .left) in
-    let g : c .before .good-minor .result ≡ goodKind (a .k) (a .s .now) = c .before .good-minor .ensures ∙ rw (told .enum-told .given .1) in
+    let g : c .before .good-minor .result ≡ goodKind (a .k) (a .s .now)
+    = c .before .good-minor .ensures ∙ rw (told .enum-told .given .1) in
     c .judged .ensures ∙ judges (a .k) (a .s .now) (c .before .good-minor .result) h g
 
 returns-3 : tie.Need-returns-3
@@ -50,7 +51,8 @@ returns-3 c =
     let at-if1 = told .before .before in
     let a = at-if1 .before .before .before .args in
     let h = rw (at-if1 .before .length-of .ensures) at (at-if1 .if1 .left) in
-    let g : c .before .good-major .result ≡ goodKind (a .k) (a .s .now) = c .before .good-major .ensures ∙ rw (told .enum-told2 .given .1) in
+    let g : c .before .good-major .result ≡ goodKind (a .k) (a .s .now)
+    = c .before .good-major .ensures ∙ rw (told .enum-told2 .given .1) in
     c .judged2 .ensures ∙ judges (a .k) (a .s .now) (c .before .good-major .result) h g
 
 pub full-look-spec : {M : Type 1} → statement M

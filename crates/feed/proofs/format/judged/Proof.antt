@@ -1,5 +1,4 @@
 -- `feed::format::judged` meets its contract. Assumes nothing.
-use borrow.Author.Needs.{needs}
 use Rattle.feed.proofs.format.judged.Statement.{statement}
 use Rattle.feed.proofs.format.judged.Tie as tie
 

@@ -1,5 +1,5 @@
--- `feed::reader::fill` meets its contract. The loop's invariant: filling the store on from what it holds, with the rest of the piece, ends as
--- filling it from what was held at the start. The measure is what is left of the piece. Assumes nothing.
+-- `feed::reader::fill` meets its contract. The loop's invariant: filling the store on from what it holds, with the rest of the piece, ends
+-- as filling it from what was held at the start. The measure is what is left of the piece. Assumes nothing.
 use Prim.Native.Nat.{ℕ, _≤_, _<_, _-_, _+_}
 use mathlib.Core.Path.{_≡_, refl, sym, _∙_, ap}
 use mathlib.Core.List.{List}
@@ -115,7 +115,8 @@ returns-2 : tie.Need-returns-2 Inv-loop μ-loop
 returns-2 c =
     let j = joined (c .before .before) in
     let d = c .before .before .before in
-    turn-found _ _ _ _ _ _ (d .before .before .loop .inv) _ (d .find-front .ensures) _ _ (j .0) (j .1) (c .before .if2 .left) (c .if3 .taken)
+    turn-found _ _ _ _ _ _ (d .before .before .loop .inv) _ (d .find-front .ensures) _ _ (j .0) (j .1) (c .before .if2 .left)
+    (c .if3 .taken)
 
 -- a byte is there, and a place is free
 none : (c : tie.Else3 Inv-loop μ-loop) → c .before .before .before .find-front .result .long ≤ 0
@@ -124,7 +125,8 @@ none c =
     ltb-false 0 (d .find-front .result .long) (or-none-left (ltb 0 (d .find-front .result .long)) _ (c .if3 .left))
 
 more : (c : tie.Else3 Inv-loop μ-loop)
-    → c .before .before .before .before .before .loop .used < length (c .before .before .before .before .before .before .before .before .args .piece .now)
+    → c .before .before .before .before .before .loop .used
+    < length (c .before .before .before .before .before .before .before .before .args .piece .now)
 more c =
     let l = c .before .before .before .before .before in
     let n = length (l .before .before .before .args .piece .now) in
@@ -241,7 +243,8 @@ loop-again : tie.Need-loop-again Inv-loop μ-loop
 loop-again c =
     let d = c .before .before .before .before .before in
     let k = c .before .before .copy in
-    turn-copy _ _ _ _ _ _ (d .calm .result) (taken (d .before .before)) (older (d .before .before)) (d .calm .ensures) (k .last .0) (k .ensures)
+    turn-copy _ _ _ _ _ _ (d .calm .result) (taken (d .before .before)) (older (d .before .before)) (d .calm .ensures) (k .last .0)
+    (k .ensures)
 
 pub fill-spec : {M : Type 1} → statement M
 fill-spec =

@@ -1,12 +1,12 @@
 -- `feed::reader::find` meets its contract. Assumes nothing.
-use mathlib.Core.Path.{_≡_, refl, sym, ap, _∙_}
+use Prim.Native.Nat.{ℕ}
+use mathlib.Core.Path.{_≡_, sym, ap, _∙_}
 use mathlib.Core.List.{[]}
 use mathlib.Core.Logic.{⊎-elim}
 use native.Mathlib.Omega.{arith}
 use borrow.Author.Needs.{needs}
 use lib.ListN.{length, take}
 use lib.Seq.{length-take-le}
-use Rattle.feed.specs.Size.{storeLength}
 use Rattle.feed.specs.Reader.{store}
 use Rattle.feed.proofs.Reading.Stores.{length-store}
 use Rattle.feed.proofs.Reading.Finding.{Ready, ready-none, ready-finds, filled-finds, count-within, cleared-empty, filled-ready}
@@ -37,10 +37,15 @@ slice-aggregate-clear c =
 -- where the arms meet: the store is empty, and the search in the piece can begin
 joined : (c : tie.Joined1)
     → (c .if1 .b ≡ store [])
-    × Ready (take (c .before .before .before .args .count) (c .before .before .before .args .b .now)) (c .before .before .before .args .piece .now)
-    (c .before .before .before .args .from) (c .if1 .at) (c .if1 .taken)
+    × Ready
+    (take (c .before .before .before .args .count) (c .before .before .before .args .b .now))
+    (c .before .before .before .args .piece .now)
+    (c .before .before .before .args .from)
+    (c .if1 .at)
+    (c .if1 .taken)
 joined c =
     let start = c .before .before .before in
+    let a = start .args in
     let p = start .pre .1 in
     ⊎-elim
     (λ w.
@@ -50,8 +55,8 @@ joined c =
       rw (w .11, w .12) (filled-ready _ _ _ (p .2) _ _ (e .0) (e .1) n (w .5 .left)),
     ))
     (λ w.
-    let z : start .args .count ≡ 0 = omega (arith, w .0 .left) in
-    let none : take (start .args .count) (start .args .b .now) ≡ [] = rw z refl in
+    let z : a .count ≡ 0 = omega (arith, w .0 .left) in
+    let none : take (a .count) (a .b .now) ≡ [] = ap (λ (n : ℕ). take n (a .b .now)) z in
     (w .1 ∙ p .1 ∙ ap store none, rw (w .2, w .3) (ready-none _ _ _ none (p .2))))
     (c .if1 .came)
 
@@ -63,7 +68,8 @@ search-requires c κs =
 same-length-2 : tie.Need-same-length-2
 same-length-2 c =
     let join = c .before .before .before .before in
-    c .before .before .search .kept .0 ∙ ap length (joined join .0) ∙ length-store [] (omega arith) ∙ sym (join .before .before .before .pre .0)
+    let start = join .before .before .before in
+    c .before .before .search .kept .0 ∙ ap length (joined join .0) ∙ length-store [] (omega arith) ∙ sym (start .pre .0)
 
 returns-2 : tie.Need-returns-2
 returns-2 c =

@@ -26,7 +26,8 @@ slice-aggregate-copy c =
     sym (length-take-le _ (c .before .before .before .args .b .now) (omega arith))
 
 -- as many bytes as places
-part-long : (c : tie.Start) → length (take (c .args .end - c .args .at) (drop (c .args .at) (c .args .piece .now))) ≡ c .args .end - c .args .at
+part-long : (c : tie.Start)
+    → length (take (c .args .end - c .args .at) (drop (c .args .at) (c .args .piece .now))) ≡ c .args .end - c .args .at
 part-long c =
     let p = c .pre .1 in
     length-take-le _ (drop (c .args .at) (c .args .piece .now)) (rw (length-drop (c .args .at) (c .args .piece .now)) (omega arith))

@@ -90,11 +90,13 @@ good-requires c κs =
     (let l = length-take-le (lengthOf (kind d)) (drop (at d) (piece d)) (omega arith) in omega arith)
 
 -- what is said of it
+abbrev full : tie.After-good2 Inv-loop μ-loop → tie.Else3 Inv-loop μ-loop
+full c = c .before .before
+
 judged : (c : tie.After-good2 Inv-loop μ-loop)
-    → c .good2 .result
-    ≡ goodKind (kind (c .before .before)) (take (lengthOf (kind (c .before .before))) (drop (at (c .before .before)) (piece (c .before .before))))
+    → c .good2 .result ≡ goodKind (kind (full c)) (take (lengthOf (kind (full c))) (drop (at (full c)) (piece (full c))))
 judged c =
-    let d = c .before .before in
+    let d = full c in
     c .good2 .ensures
     ∙ ap (λ (n : ℕ). goodKind (kind d) (take n (drop (at d) (piece d)))) (add-sub-cancel-left (at d) _ ∙ d .before .length-of .ensures)
 
@@ -106,7 +108,7 @@ hold-requires : tie.Need-hold-requires Inv-loop μ-loop
 hold-requires c κs =
     let d = c .before .before .before .before .before in
     let t = head d .loop .inv .1 in
-    (empty (head d), (omega (arith, c .before .if5 .taken), t .taken, t .fits))
+    (empty (head d), (omega (arith, c .before .if5 .taken), omega (arith, t .taken), omega (arith, t .fits)))
 
 same-length : tie.Need-same-length Inv-loop μ-loop
 same-length c =
@@ -141,7 +143,9 @@ loop-again-3 c =
     let w : (head d .loop .high ≤ c .if6 .high) × (at d + lengthOf (kind d) ≤ c .if6 .high)
     × ((c .if6 .high ≡ head d .loop .high) ⊎ (c .if6 .high ≡ at d + lengthOf (kind d))) =
     ⊎-elim
-    (λ w. let e : c .if6 .high ≡ at d + lengthOf (kind d) = w .1 ∙ ap (λ (i : ℕ). at d + i) n in (omega (arith, w .0 .taken), omega arith, inr e))
+    (λ w.
+    let e : c .if6 .high ≡ at d + lengthOf (kind d) = w .1 ∙ ap (λ (i : ℕ). at d + i) n in
+    (omega (arith, w .0 .taken), omega arith, inr e))
     (λ w. (omega (arith, w .0 .left, w .1), omega (arith, w .0 .left, w .1), inl (w .1))) (c .if6 .came) in (
       head d .loop .inv .0,
       passing-lost _ _ _ _ (head d .loop .inv .1) (first d) (kind d) (second d) (enough d)
@@ -150,7 +154,8 @@ loop-again-3 c =
 
 -- ---- the reader waits
 
-waits : (c : tie.Left-loop Inv-loop μ-loop) → look (drop (c .before .loop .at) (c .before .before .before .before .args .piece .now)) ≡ Waits
+waits : (c : tie.Left-loop Inv-loop μ-loop)
+    → look (drop (c .before .loop .at) (c .before .before .before .before .args .piece .now)) ≡ Waits
 waits c =
     let l = c .before in
     let t = l .loop .inv .1 in
@@ -163,7 +168,8 @@ hold-requires-2 : tie.Need-hold-requires-2 Inv-loop μ-loop
 hold-requires-2 c κs =
     let l = c .before .before in
     let t = l .loop .inv .1 in
-    (empty l, (t .within, omega arith, waiting-fits _ _ _ _ t (waits (c .before))))
+    let fits = waiting-fits _ _ _ _ t (waits (c .before)) in
+    (empty l, (omega (arith, t .within), omega (arith, t .within), omega arith))
 
 same-length-3 : tie.Need-same-length-3 Inv-loop μ-loop
 same-length-3 c = c .before .before .hold2 .kept .0 ∙ ap length (c .before .before .before .before .before .loop .inv .0)
@@ -177,8 +183,8 @@ returns-3 c =
 pub search-spec : {M : Type 1} → statement M
 search-spec =
     tie.close
-    (tie.spec Inv-loop μ-loop loop-holds (λ c. search needs) (λ c. search needs) next-mark-requires loop-less loop-again (λ c. search needs)
-    (λ c. search needs) (λ c. search needs) (λ c κs. search needs) (λ c. search needs) (λ c. search needs) (λ c. search needs) loop-again-2
-    (λ c. search needs) (λ c κs. search needs) (λ c. search needs) (λ c. search needs) (λ c. search needs) (λ c. search needs) (λ c. search needs)
-    good-requires hold-requires same-length returns same-length-2 returns-2 (λ c. search needs) (λ c. search needs) loop-again-3
-    hold-requires-2 same-length-3 returns-3)
+    (tie.spec Inv-loop μ-loop loop-holds (λ c. search needs) (λ c. search needs) next-mark-requires loop-less loop-again
+    (λ c. search needs) (λ c. search needs) (λ c. search needs) (λ c κs. search needs) (λ c. search needs) (λ c. search needs)
+    (λ c. search needs) loop-again-2 (λ c. search needs) (λ c κs. search needs) (λ c. search needs) (λ c. search needs)
+    (λ c. search needs) (λ c. search needs) (λ c. search needs) good-requires hold-requires same-length returns same-length-2 returns-2
+    (λ c. search needs) (λ c. search needs) loop-again-3 hold-requires-2 same-length-3 returns-3)
