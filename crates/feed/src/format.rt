@@ -1,10 +1,10 @@
 // The record format: marks, lengths, sum, reserved bits, quantities; and what the bytes at the front of the reader are.
 ghost use mathlib.Core.Path.{_≡_};
-ghost use mathlib.Core.Bool.{cond, _&&_};
+ghost use mathlib.Core.Bool.{cond};
 ghost use Prim.Native.Nat.{_+_, _≤_};
 ghost use lib.ListN.{length};
 ghost use Rattle.feed.specs.Size.{minorLength, majorLength, quantitiesLength};
-ghost use Rattle.feed.specs.Format.{markOf, lengthOf, lengthMarked, sumOf, sumRight, reservedZero, twoRight, quantitiesRight};
+ghost use Rattle.feed.specs.Format.{markOf, lengthOf, lengthMarked, sumOf, reservedZero, twoRight, quantitiesRight};
 ghost use Rattle.feed.specs.Format.{goodMinor, goodMajor, goodKind, fullLook, look};
 ghost use Rattle.feed.specs.declared.format.Look.the-variants.{Loses, Settles};
 use crate::bytes::two_at;
@@ -44,9 +44,6 @@ pub enum Look {
     Loses,
     Settles(Kind),
 }
-
-// So many bytes make a partial sum: the compiler adds them by a few wide instructions.
-const SPAN: usize = 32;
 
 // What this second byte makes of a mark.
 pub(crate) fn mark_of(b: u8) -> Mark
@@ -94,19 +91,6 @@ pub fn sum(s: &[u8]) -> u16
     t
 }
 
-// The same, by partial sums.
-fn sum_by_spans(s: &[u8]) -> u16
-    ensures { λ r. ⌜ r ≡ sumOf (now (s .entry)) ⌝ }
-{
-    let mut t: u16 = 0;
-    let mut at: usize = 0;
-    while SPAN <= s.len() - at {
-        t = std::num::wrapping_add_u16(t, sum(&s[at..at + SPAN]));
-        at += SPAN;
-    }
-    std::num::wrapping_add_u16(t, sum(&s[at..]))
-}
-
 // Are the reserved bits of the path byte zero?
 fn reserved_zero(s: &[u8]) -> bool
     requires { ⌜ minorLength ≤ length (now s) ⌝ }
@@ -142,23 +126,10 @@ pub(crate) fn good_minor(s: &[u8]) -> bool
     requires { ⌜ minorLength ≤ length (now s) ⌝ }
     ensures { λ r. ⌜ r ≡ goodMinor (now (s .entry)) ⌝ }
 {
-    // A partial sum on each side: on the same side the compiler would make one sum of them again.
-    let rest = std::num::wrapping_sub_u16(two_at(s, MINOR_SUMMED), sum(&s[..SPAN]));
-    if rest != sum(&s[SPAN..MINOR_SUMMED]) {
+    if two_at(s, MINOR_SUMMED) != sum(&s[..MINOR_SUMMED]) {
         return false;
     }
     reserved_zero(s)
-}
-
-// Are the sum and the quantities of the full major record at the front right?
-fn major_right(s: &[u8]) -> bool
-    requires { ⌜ majorLength ≤ length (now s) ⌝ }
-    ensures { λ r. ⌜ r ≡ (sumRight majorLength (now (s .entry)) && quantitiesRight (now (s .entry))) ⌝ }
-{
-    if two_at(s, MAJOR_SUMMED) != sum_by_spans(&s[..MAJOR_SUMMED]) {
-        return false;
-    }
-    quantities_right(s)
 }
 
 // Is the full major record at the front good?
@@ -166,11 +137,14 @@ fn good_major(s: &[u8]) -> bool
     requires { ⌜ majorLength ≤ length (now s) ⌝ }
     ensures { λ r. ⌜ r ≡ goodMajor (now (s .entry)) ⌝ }
 {
-    // The cheaper test first: a false mark seldom passes it. The other tests stand by themselves, so that this one is cheap to call.
+    // The cheaper test first: a false mark seldom passes it.
     if !reserved_zero(s) {
         return false;
     }
-    major_right(s)
+    if two_at(s, MAJOR_SUMMED) != sum(&s[..MAJOR_SUMMED]) {
+        return false;
+    }
+    quantities_right(s)
 }
 
 // Is the full record of this kind at the front good?
