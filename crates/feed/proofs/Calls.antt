@@ -15,6 +15,7 @@ pub mod NoLongWait
 pub mod NextRecord
 pub mod WholeCalls
 pub mod CalmRuns
+pub mod Stretches
 pub mod HandedIn
 pub mod HandingOut
 pub mod Growing

@@ -11,6 +11,7 @@ ghost use Rattle.feed.specs.Masks.{startedFrom};
 ghost use Rattle.feed.specs.Inside.Turn.{foundIn, leftCount, leftBytes, Turn};
 use crate::calm::calm_after;
 use crate::calm::calm_turn;
+use crate::calm::stretch;
 use crate::masks::masks_of;
 use crate::reader::clear;
 use crate::reader::find;
@@ -241,11 +242,18 @@ impl Monitor {
         let mut calm = false;
         let mut mapped = [0u32; STRINGS];
         while written + OUTBOX_NEEDED <= out.len() {
-            if calm && calm_turn(hall, mapped, piece, used, &mut out[written - REPORT..]) {
-                hall.n = hall.n + 1;
-                used += MINOR_LENGTH;
-                written += REPORT;
-                continue;
+            if calm {
+                let mut left = stretch(hall.n, piece.len() - used, out.len() - written);
+                while 0 < left {
+                    if calm_turn(hall, mapped, piece, used, &mut out[written - REPORT..]) {
+                        hall.n = hall.n + 1;
+                        used += MINOR_LENGTH;
+                        written += REPORT;
+                        left -= 1;
+                        continue;
+                    }
+                    left = 0;
+                }
             }
             let t = turn(hall, &mut b[..], count, piece, used, &mut out[written..]);
             let next = t.hall;

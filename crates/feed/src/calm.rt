@@ -1,23 +1,29 @@
 // Calm records: where nothing is under way, a minor record of the next cycle that finds nothing changes the number alone. It is told apart
-// by its bytes, where they lie; no string is stepped, and its report is the one before with another number.
+// by its bytes, where they lie; no string is stepped, and its report is the one before with another number. They come in stretches, from
+// one major record to the next.
 ghost use mathlib.Core.Path.{_≡_};
-ghost use mathlib.Core.Bool.{true, cond};
+ghost use mathlib.Core.Bool.{true, false, cond, _&&_};
 ghost use mathlib.Core.List.{_++_};
 ghost use Prim.Native.Nat.{_+_, _^_, _≤_, _<_};
-ghost use lib.ListN.{length, take};
+ghost use lib.Dec.{eqb};
+ghost use lib.ListN.{length, getD, take};
 ghost use Rattle.bits.specs.Bit.{wordBits};
+ghost use Rattle.cycle.specs.Size.{lastCount};
+ghost use Rattle.cycle.specs.Numbers.{isMajor};
 ghost use Rattle.cycle.specs.Calm.{mappedWords, allQuiet};
-ghost use Rattle.feed.specs.Size.{minorLength, reportLength};
+ghost use Rattle.feed.specs.Size.{markByte, minorMark, minorLength, reportLength};
 ghost use Rattle.feed.specs.Values.{minorOf};
 ghost use Rattle.feed.specs.Inside.Calm.{Words, turnedSample, turnedWords, passes, passesAt, renumbered, toldAgain, calmAfter};
+ghost use Rattle.feed.specs.Inside.Calm.{least, minorsAhead, stretch};
 use crate::bytes::put_four;
 use crate::bytes::turned32;
 use crate::bytes::two_at;
+use crate::bytes::wide16;
 use crate::format::good_minor;
 use crate::size::COUNT_AT;
-use crate::size::MARK;
 use crate::size::MINOR_LENGTH;
-use crate::size::MINOR_MARK;
+use crate::size::MINOR_MARKS;
+use crate::size::OUTBOX_NEEDED;
 use crate::size::PATH_AT;
 use crate::size::REPORT;
 use crate::size::SAMPLE_LENGTH;
@@ -29,7 +35,8 @@ use cycle::answer::Answer;
 use cycle::calm::all_calm;
 use cycle::hall::Hall;
 use cycle::map::mapped_words;
-use cycle::number::follows;
+use cycle::size::LAST_COUNT;
+use cycle::size::MAJOR_EVERY;
 use cycle::size::STRINGS;
 use cycle::values::Sample;
 
@@ -104,19 +111,54 @@ fn all_quiet(hall: Hall, mapped: [u32; STRINGS], s: &[u8]) -> bool
     (s[PATH_AT] == 0) & found
 }
 
-// Are the bytes a good minor record of the next cycle that finds nothing? The sum comes last: it is the dearest test.
+// The least of two.
+fn least(a: usize, b: usize) -> usize
+    ensures { λ r. ⌜ r ≡ least a b ⌝ }
+{
+    if a < b { a } else { b }
+}
+
+// How many minor cycles come after number n, before the next major one; none where the count may end among them.
+fn minors_ahead(n: u32) -> usize
+    ensures { λ r. ⌜ r ≡ minorsAhead n ⌝ }
+{
+    if LAST_COUNT - n < MAJOR_EVERY {
+        return 0;
+    }
+    (MAJOR_EVERY - 1 - n % MAJOR_EVERY) as usize
+}
+
+// How many calm minor records a stretch has at the most: by the number, by the bytes of the piece that are left, and by the room in the
+// outbox, which keeps that of one report more. So no record of it needs to be asked for these.
+pub(crate) fn stretch(n: u32, fed: usize, room: usize) -> usize
+    ensures { λ r. ⌜ r ≡ stretch n fed room ⌝ }
+{
+    if room < OUTBOX_NEEDED {
+        return 0;
+    }
+    let reports = (room - OUTBOX_NEEDED) / REPORT;
+    least(minors_ahead(n), least(fed / MINOR_LENGTH, reports))
+}
+
+// Is the mark at the front a minor record's? Both bytes at once.
+fn minor_marked(s: &[u8]) -> bool
+    requires { ⌜ length (now s) ≡ minorLength ⌝ }
+    ensures { λ r. ⌜ r ≡ (eqb (getD (now (s .entry)) 0 0) markByte && eqb (getD (now (s .entry)) 1 0) minorMark) ⌝ }
+{
+    wide16(s[1]) * 256 + wide16(s[0]) == MINOR_MARKS
+}
+
+// Are the bytes a good minor record of the next cycle, which is a minor one, that finds nothing? The sum comes last: it is the dearest test.
 fn passes(hall: Hall, mapped: [u32; STRINGS], s: &[u8]) -> bool
     requires { ⌜ length (now s) ≡ minorLength ⌝ }
+    requires { ⌜ (hall .n < lastCount) × (isMajor (hall .n + 1) ≡ false) ⌝ }
     requires { ⌜ (mapped ≡ turnedWords (mappedWords (hall .masks))) × Words (mappedWords (hall .masks)) ⌝ }
     ensures { λ r. ⌜ r ≡ passes hall (now (s .entry)) ⌝ }
 {
-    if s[0] != MARK {
+    if !minor_marked(s) {
         return false;
     }
-    if s[1] != MINOR_MARK {
-        return false;
-    }
-    if !follows(hall.n, two_at(s, WIRE_AT), false) {
+    if two_at(s, WIRE_AT) != ((hall.n + 1) % 65536) as u16 {
         return false;
     }
     if !all_quiet(hall, mapped, s) {
@@ -156,14 +198,12 @@ pub(crate) fn calm_turn(
     from: usize,
     out: &mut [u8],
 ) -> bool
-    requires { ⌜ (from ≤ length (now piece)) × (reportLength + reportLength ≤ length (now out)) ⌝ }
+    requires { ⌜ (from + minorLength ≤ length (now piece)) × (reportLength + reportLength ≤ length (now out)) ⌝ }
     requires { ⌜ (mapped ≡ turnedWords (mappedWords (hall .masks))) × Words (mappedWords (hall .masks)) ⌝ }
+    requires { ⌜ (hall .n < lastCount) × (isMajor (hall .n + 1) ≡ false) ⌝ }
     ensures { λ r. ⌜ r ≡ passesAt hall from (now (piece .entry)) ⌝ }
     ensures { λ r. ⌜ now (out .exit) ≡ cond (passesAt hall from (now (piece .entry))) (toldAgain (hall .n + 1) (now (out .entry))) (now (out .entry)) ⌝ }
 {
-    if piece.len() - from < MINOR_LENGTH {
-        return false;
-    }
     if !passes(hall, mapped, &piece[from..from + MINOR_LENGTH]) {
         return false;
     }

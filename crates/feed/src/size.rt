@@ -11,6 +11,9 @@ pub const MINOR_MARK: u8 = 77;
 
 pub const MAJOR_MARK: u8 = 74;
 
+// A minor record's mark as one number, the low byte first.
+pub const MINOR_MARKS: u16 = MINOR_MARK as u16 * 256 + MARK as u16;
+
 pub const MARK_LENGTH: usize = 2;
 
 // A word: a bit for each jet of a string.

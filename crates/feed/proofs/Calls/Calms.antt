@@ -4,7 +4,7 @@ use mathlib.Core.Path.{_≡_, refl, sym, ap, _∙_}
 use mathlib.Core.Bool.{Bool, true, false, cond, _&&_}
 use mathlib.Core.List.{List}
 use mathlib.Core.Logic.{inl}
-use Prim.Native.Nat.{ℕ, _+_, _-_, _*_, _^_, _<_, _≤_}
+use Prim.Native.Nat.{ℕ, _+_, _-_, _*_, _%_, _^_, _<_, _≤_}
 use native.Mathlib.Nat.{add-sub-cancel-left}
 use native.Mathlib.Omega.{arith}
 use borrow.Author.Tests.{eqb-true, ltb-true, ltb-false, lt-ltb, le-ltb}
@@ -12,8 +12,9 @@ use lib.Dec.{eqb, ltb}
 use lib.ListN.{length, getD, take, drop, replicate}
 use Rattle.bits.specs.Bit.{wordBits, every}
 use Rattle.bits.proofs.Every.{every-same}
-use Rattle.bits.proofs.Yes.{and-left, and-right, not-both}
-use Rattle.cycle.specs.Size.{stringCount, manifoldCount, lastCount}
+use Rattle.bits.proofs.Yes.{and-left, and-right, and-true, not-both}
+use Rattle.cycle.specs.Size.{stringCount, manifoldCount, lastCount, wireSpan}
+use Rattle.cycle.specs.Numbers.{isMajor}
 use Rattle.cycle.specs.Map.{masksOf, mapped}
 use Rattle.cycle.specs.Hall.{noSample, pastString, stringOf, stepped}
 use Rattle.cycle.specs.Records.{minor, major}
@@ -69,6 +70,25 @@ all-quiet-told l jets h e words fit =
     ∙ ap (λ (j : ℕ). quiet j x (stringOf h s)) (mapped-at (h .masks) s b)
     ∙ ap (λ (y : Sample). quiet (mapped manifoldCount (masksOf (h .masks) s)) y (stringOf h s))
     (sym (table-at (λ k. sampleAt l (samplesFrom + sampleLength * k)) noSample stringCount s b))))
+
+-- ---- the tests of a record
+
+and-joined : (a b c : Bool) → (a && (b && c)) ≡ ((a && b) && c)
+and-joined true b c = refl
+and-joined false b c = refl
+
+-- by both bytes of its mark at once
+pub passes-by-mark : (h : Hall) (l : List ℕ)
+    → passes h l
+    ≡ ((eqb (getD l 0 0) markByte && eqb (getD l 1 0) minorMark)
+    && (follows (h .n) (two l wireAt) false && (allQuiet (minorOf l) h && goodMinor l)))
+unfolding passes
+passes-by-mark h l = and-joined (eqb (getD l 0 0) markByte) (eqb (getD l 1 0) minorMark) _
+
+-- by its wire cycle alone, where the next cycle is a minor one
+pub follows-next : (n wire : ℕ) → n < lastCount → isMajor (n + 1) ≡ false → follows n wire false ≡ eqb wire ((n + 1) % wireSpan)
+unfolding follows
+follows-next n wire l k = rw (lt-ltb n lastCount l, k) (and-true (eqb wire ((n + 1) % wireSpan)))
 
 -- ---- what a record that passes is
 

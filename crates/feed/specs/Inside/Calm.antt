@@ -2,11 +2,11 @@
 -- Assumes nothing.
 use mathlib.Core.Bool.{Bool, true, false, cond, _&&_}
 use mathlib.Core.List.{List, _++_}
-use Prim.Native.Nat.{ℕ, _+_, _-_, _*_, _^_, _<_}
+use Prim.Native.Nat.{ℕ, _+_, _-_, _*_, _/_, _%_, _^_, _<_}
 use lib.Dec.{eqb, ltb}
 use lib.ListN.{length, getD, take, drop, replicate}
 use Rattle.bits.specs.Bit.{wordBits, any}
-use Rattle.cycle.specs.Size.{stringCount}
+use Rattle.cycle.specs.Size.{stringCount, majorEvery, lastCount}
 use Rattle.cycle.specs.Each.{each}
 use Rattle.cycle.specs.Answers.{isTaken}
 use Rattle.cycle.specs.Leak.{cold}
@@ -15,7 +15,7 @@ use Rattle.cycle.specs.declared.answer.Answer.{Answer}
 use Rattle.cycle.specs.declared.hall.Hall.{Hall}
 use Rattle.cycle.specs.declared.string.OnSlots.{OnSlots}
 use Rattle.cycle.specs.declared.values.Sample.{Sample}
-use Rattle.feed.specs.Size.{markByte, minorMark, minorLength, wireAt, countAt, stringsFrom, reportLength}
+use Rattle.feed.specs.Size.{markByte, minorMark, minorLength, wireAt, countAt, stringsFrom, reportLength, outboxNeeded}
 use Rattle.feed.specs.Size.{temperatureLength, temperatureCount, temperaturesFrom, temperaturesLength, samplesFrom, sampleLength}
 use Rattle.feed.specs.Size.{requestsFrom, requestsLength, dropsFrom}
 use Rattle.feed.specs.Bytes.{two, inFour}
@@ -51,6 +51,20 @@ passes h l =
 -- the piece has such a record from place `from` on
 abbrev pub passesAt : Hall → ℕ → List ℕ → Bool
 passesAt h from piece = cond (ltb (length piece - from) minorLength) false (passes h (take minorLength (drop from piece)))
+
+-- the least of two
+abbrev pub least : ℕ → ℕ → ℕ
+least a b = cond (ltb a b) a b
+
+-- the minor cycles after number n, before the next major one; none where the count may end among them
+unfoldable pub minorsAhead : ℕ → ℕ
+minorsAhead n = cond (ltb (lastCount - n) majorEvery) 0 (majorEvery - 1 - n % majorEvery)
+
+-- the calm minor records of a stretch at the most, by the number, by so many bytes of the piece, and by the room in the outbox but for
+-- that of one report
+unfoldable pub stretch : ℕ → ℕ → ℕ → ℕ
+stretch n fed room =
+    cond (ltb room outboxNeeded) 0 (least (minorsAhead n) (least (fed / minorLength) ((room - outboxNeeded) / reportLength)))
 
 -- a report with another number
 unfoldable pub renumbered : ℕ → List ℕ → List ℕ

@@ -10,51 +10,40 @@ use lib.Seq.{length-take-le, take-take}
 use Rattle.bits.proofs.Yes.{not-true, not-no}
 use Rattle.feed.specs.Size.{minorLength, reportLength}
 use Rattle.feed.specs.Inside.Calm.{passes, passesAt, renumbered}
-use Rattle.feed.proofs.Calls.Calms.{passes-below, passes-short, passes-part}
+use Rattle.feed.proofs.Calls.Calms.{passes-part}
 use Rattle.feed.proofs.calm.calm_turn.Statement.{statement}
 use Rattle.feed.proofs.calm.calm_turn.Tie as tie
-
-returns : tie.Need-returns
-returns c =
-    let a = c .before .before .before .args in
-    rw (passes-short (a .hall) (a .from) (a .piece .now) (c .if1 .taken)) (refl, refl)
 
 -- what the test of the record says
 module _ (c : tie.After-passes) where
   abbrev start : tie.Start
-  start = c .before .before .before .before .before
+  start = c .before .before .before .before
 
   told : (b : Bool) → c .passes .result ≡ b → passesAt (start .args .hall) (start .args .from) (start .args .piece .now) ≡ b
   told b e =
-      passes-part (start .args .hall) (start .args .from) (start .args .piece .now) (omega (arith, c .before .before .if1 .left)) b
+      passes-part (start .args .hall) (start .args .from) (start .args .piece .now) (omega (arith, start .pre .0 .0)) b
       (sym e ∙ c .passes .ensures)
 
-returns-2 : tie.Need-returns-2
-returns-2 c = rw (told (c .before) false (not-true (c .before .passes .result) (c .if2 .taken))) (refl, refl)
+returns : tie.Need-returns
+returns c = rw (told (c .before) false (not-true (c .before .passes .result) (c .if1 .taken))) (refl, refl)
 
 slice-aggregate-tell-again : tie.Need-slice-aggregate-tell-again
 slice-aggregate-tell-again c =
-    let start = c .before .before .before .before .before .before .before in
+    let start = c .before .before .before .before .before .before in
     sym (length-take-le (reportLength + reportLength) (start .args .out .now) (start .pre .0 .1))
-
-add-tell-again-2 : tie.Need-add-tell-again-2
-add-tell-again-2 c =
-    let at-passes = c .before .before .before in
-    let n = passes-below _ _ (sym (at-passes .passes .ensures) ∙ not-no (at-passes .passes .result) (c .before .before .if2 .left)) in
-    record { fits = omega arith }
 
 tell-again-requires : tie.Need-tell-again-requires
 tell-again-requires c κs =
-    let start = c .before .before .before .before .before .before .before .before in
+    let start = c .before .before .before .before .before .before .before in
     length-take-le (reportLength + reportLength) (start .args .out .now) (start .pre .0 .1)
 
-returns-3 : tie.Need-returns-3
-returns-3 c =
+returns-2 : tie.Need-returns-2
+returns-2 c =
     let at-passes = c .before .before .before .before .before .before in
     let a = start at-passes .args in
     let out = a .out .now in
     let both = reportLength + reportLength in
-    let t = told at-passes true (not-no (at-passes .passes .result) (c .before .before .before .before .before .if2 .left)) in
+    let t = told at-passes true (not-no (at-passes .passes .result) (c .before .before .before .before .before .if1 .left)) in
     let front : take reportLength (take both out) ≡ take reportLength out = take-take reportLength both out (omega arith) in
     rw t (
       refl,
@@ -66,6 +55,5 @@ returns-3 c =
 pub calm-turn-spec : {M : Type 1} → statement M
 calm-turn-spec =
     tie.close
-    (tie.spec (λ c. search needs) returns (λ c. search needs) (λ c. search needs) (λ c. search needs) (λ c. search needs)
-    (λ c κs. search needs) returns-2 (λ c. search needs) (λ c. search needs) slice-aggregate-tell-again add-tell-again-2
-    tell-again-requires (λ c. search needs) returns-3)
+    (tie.spec (λ c. search needs) (λ c. search needs) (λ c. search needs) (λ c. search needs) (λ c κs. search needs) returns
+    (λ c. search needs) (λ c. search needs) slice-aggregate-tell-again (λ c. search needs) tell-again-requires (λ c. search needs) returns-2)
