@@ -1,8 +1,9 @@
--- Where steps 5 to 8 find nothing, all that they leave is the good copy. Assumes nothing.
+-- Where steps 5 to 8 find nothing, all that they leave is the good copy; and a major record of the next cycle that finds nothing in any
+-- step, in a hall in which nothing is under way, is taken, and leaves no more than that, the number and the banks. Assumes nothing.
 use mathlib.Core.Path.{_≡_, refl, sym, ap, ap₂, _∙_}
 use mathlib.Core.Bool.{Bool, true, false, not, _&&_}
 use mathlib.Core.List.{List}
-use Prim.Native.Nat.{ℕ, zero, suc, _<_}
+use Prim.Native.Nat.{ℕ, zero, suc, _+_, _<_}
 use native.Mathlib.Omega.{arith}
 use lib.Bits.{bitAnd, bitOr, bitXor, and-zero-l, and-zero-r, or-zero-r, xor-zero-l, xor-zero-r}
 use lib.Dec.{eqb}
@@ -11,8 +12,8 @@ use lib.ListN.{getD}
 use Rattle.bits.specs.Bit.{bit, without, meets, pack, any, every}
 use Rattle.bits.proofs.Yes.{and-left, and-right, not-both, not-true, not-no, not-yes}
 use Rattle.bits.proofs.Bits.{bit-none}
-use Rattle.bits.proofs.Every.{every-at}
-use Rattle.bits.proofs.Words.{any-at}
+use Rattle.bits.proofs.Every.{every-at, every-same}
+use Rattle.bits.proofs.Words.{any-at, any-none}
 use Rattle.cycle.specs.Size.{stringCount, manifoldCount, moduleCount}
 use Rattle.cycle.specs.Each.{each}
 use Rattle.cycle.specs.Map.{masksOf, mapped}
@@ -20,15 +21,23 @@ use Rattle.cycle.specs.Banks.{weighedAll}
 use Rattle.cycle.specs.Words.{withClose, withOver, withFail, withOn, leakWord, badJets, badOf, behindClosed, closeBits, asksClose}
 use Rattle.cycle.specs.Words.{requested, afterRequests, rechecked, onFailure, kept, majorSteps, majorCycle}
 use Rattle.cycle.specs.Hall.{noTemperatures, noRequests, pastString, sampleOf, stringOf, majorStrings, majorTaken}
-use Rattle.cycle.specs.Calm.{findsNone, someLeak, quietMajor, keptStrings, keptAll}
+use Rattle.cycle.specs.Hall.{stringBothWays, bothWays, taken, unlessBothWays, verdictOn, steppedBy, stepped}
+use Rattle.cycle.specs.Records.{major}
+use Rattle.cycle.specs.Calm.{calm, allCalm, allQuiet, follows, findsNone, someLeak, quietMajor, keptStrings, keptAll, onward}
+use Rattle.cycle.specs.declared.answer.Answer.the-variants.{Taken}
+use Rattle.cycle.specs.declared.number.Next.{Next}
+use Rattle.cycle.specs.declared.number.Verdict.the-variants.{Takes}
+use Rattle.cycle.specs.declared.number.Verdict.{Verdict}
 use Rattle.cycle.specs.declared.hall.Hall.{Hall}
+use Rattle.cycle.specs.declared.string.OnSlots.{OnSlots}
 use Rattle.cycle.specs.declared.string.StringState.{StringState}
 use Rattle.cycle.specs.declared.values.Sample.{Sample}
 use Rattle.cycle.specs.declared.values.Temperatures.{Temperatures}
 use Rattle.cycle.specs.declared.values.Requests.{Requests}
 use Rattle.cycle.specs.declared.values.Major.{Major}
-use Rattle.cycle.proofs.Each.{each-same-at}
+use Rattle.cycle.proofs.Each.{each-same-at, each-alike}
 use Rattle.cycle.proofs.MappedLeaks.{bad-by-mapped}
+use Rattle.cycle.proofs.CalmHalls.{follows-judged, strings-calm}
 
 -- ---- words without a bit
 
@@ -138,3 +147,56 @@ major-keeps r h e =
     ap (λ (p : Bool). majorCycle manifoldCount masks p (sampleOf (r .minor) i) t q (stringOf h i)) (ap (bit i) path ∙ bit-none i)
     ∙ cycle-keeps manifoldCount masks (sampleOf (r .minor) i) t q (stringOf h i) (every-at stringCount _ none i b)
     (not-yes (someLeak (mapped manifoldCount masks) t) (λ l. not-both _ (any-at stringCount _ i b l) warm))))
+
+-- ---- a record of the next cycle
+
+-- it names no jet, so it names none both ways
+none-named : (r : Major) (h : Hall) → quietMajor r h ≡ true → bothWays stringCount (h .masks) (r .requests) ≡ false
+unfolding quietMajor findsNone bothWays stringBothWays meets
+none-named r h e =
+    let none = and-left (every stringCount _) _ (and-right (eqb (r .minor .path) 0) _ e) in
+    any-none stringCount _
+    (λ i b.
+    let q : Requests = getD (r .requests) i noRequests in
+    let jets : ℕ = mapped manifoldCount (masksOf (h .masks) i) in
+    let on : OnSlots = (stringOf h i) .on in
+    let f = every-at stringCount _ none i b in
+    let f₃ = and-right (eqb (on .recheck) 0) _ (and-right (eqb (on .older) 0) _ (and-right (eqb (on .newest) 0) _ f)) in
+    let inhibit : bitAnd jets (q .inhibit) ≡ 0 = eqb-true _ 0 (and-left (eqb (bitAnd jets (q .inhibit)) 0) _ f₃) in
+    ap (λ (x : ℕ). not (eqb (bitAnd x (q .reenable)) 0)) inhibit ∙ ap (λ (x : ℕ). not (eqb x 0)) (and-zero-l (q .reenable)))
+
+pub major-passes : (r : Major) (h : Hall) → allCalm stringCount (h .strings) ≡ true → allQuiet (r .minor) h ≡ true
+    → follows (h .n) (r .minor .wire) true ≡ true → quietMajor r h ≡ true
+    → stepped (major r) h ≡ record { answer = Taken; hall = keptAll (r .quantities) (onward h) }
+unfolding stepped verdictOn unlessBothWays taken quietMajor
+major-passes r h c q f e =
+    let next : Next = record { n = h .n + 1; gap = false; missed = false } in
+    let v : verdictOn (h .n) (h .masks) (major r) ≡ Takes next =
+    ap₂ unlessBothWays (none-named r h e) (follows-judged (h .n) (r .minor .wire) true f) in
+    ap (λ (y : Verdict). steppedBy y (major r) h) v
+    ∙ ap (λ (l : List StringState). record {
+      answer = Taken;
+      hall = majorTaken r (record { n = h .n + 1; masks = h .masks; strings = l; banks = h .banks });
+    }) (strings-calm (r .minor) h c q)
+    ∙ ap (λ (x : Hall). record { answer = Taken; hall = x }) (major-keeps r (onward h) e)
+
+-- what is seen of a string but for its good copy
+pub kept-alike : {A : Type 0} (g : StringState → A) → ((x : StringState) → g (kept x) ≡ g x) → (strings : List StringState) (i : ℕ)
+    → g (getD (keptStrings strings) i pastString) ≡ g (getD strings i pastString)
+unfolding keptStrings
+kept-alike g same strings i = each-alike g (λ s x. kept x) pastString strings (λ k x. same x) stringCount i
+
+-- good copies are no part of what is under way
+pub kept-calm : (strings : List StringState) → allCalm stringCount (keptStrings strings) ≡ allCalm stringCount strings
+unfolding allCalm calm kept
+kept-calm strings = every-same stringCount _ _ (λ i b. kept-alike calm (λ x. refl) strings i)
+
+-- nor of what is shown
+pub kept-fail : (strings : List StringState) (i : ℕ)
+    → (getD (keptStrings strings) i pastString) .standing .fail ≡ (getD strings i pastString) .standing .fail
+unfolding kept
+kept-fail strings i = kept-alike (λ x. x .standing .fail) (λ x. refl) strings i
+
+pub kept-close : (strings : List StringState) (i : ℕ) → (getD (keptStrings strings) i pastString) .close ≡ (getD strings i pastString) .close
+unfolding kept
+kept-close strings i = kept-alike (λ x. x .close) (λ x. refl) strings i

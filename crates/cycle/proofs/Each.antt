@@ -87,3 +87,20 @@ each-same-at f g d l (suc n) e =
     let h : each n f d l ≡ each n g d l = each-same-at f g d l n (λ i b. e i (omega arith)) in
     let k : getD (each n g d l) n d ≡ getD l n d = each-above g d l n n (omega arith) in
     rw (h, k) (ap (λ x. set (each n g d l) n x) (e n (omega arith)))
+
+-- ---- what a replacement leaves
+
+-- what is seen of every place stays, if what is put there shows the same
+set-alike : {A B : Type 0} (g : A → B) (l : List A) (n i : ℕ) (v d : A) → g v ≡ g (getD l n d) → g (getD (set l n v) i d) ≡ g (getD l i d)
+set-alike g [] n i v d e = refl
+set-alike g (x ∷ l) zero zero v d e = e
+set-alike g (x ∷ l) zero (suc i) v d e = refl
+set-alike g (x ∷ l) (suc n) zero v d e = refl
+set-alike g (x ∷ l) (suc n) (suc i) v d e = set-alike g l n i v d e
+
+pub each-alike : {A B : Type 0} (g : A → B) (f : ℕ → A → A) (d : A) (l : List A) → ((k : ℕ) (x : A) → g (f k x) ≡ g x) → (n i : ℕ)
+    → g (getD (each n f d l) i d) ≡ g (getD l i d)
+unfolding each
+each-alike g f d l same zero i = refl
+each-alike g f d l same (suc n) i =
+    set-alike g (each n f d l) n i (f n (getD (each n f d l) n d)) d (same n (getD (each n f d l) n d)) ∙ each-alike g f d l same n i

@@ -2,6 +2,7 @@
 pub mod Steps
 pub mod Turning
 pub mod Calms
+pub mod CalmMajors
 pub mod Calling
 pub mod CallBounds
 pub mod CallCases

@@ -10,6 +10,7 @@ ghost use Rattle.feed.specs.Call.{call, startedOver, runs, Ran-by};
 ghost use Rattle.feed.specs.Masks.{startedFrom};
 ghost use Rattle.feed.specs.Inside.Turn.{foundIn, leftCount, leftBytes, Turn};
 use crate::calm::calm_after;
+use crate::calm::calm_major;
 use crate::calm::calm_turn;
 use crate::calm::stretch;
 use crate::masks::masks_of;
@@ -18,6 +19,7 @@ use crate::reader::find;
 use crate::reader::held_count;
 use crate::reader::shift;
 use crate::report::write_report;
+use crate::size::MAJOR_LENGTH;
 use crate::size::MAP;
 use crate::size::MINOR_LENGTH;
 use crate::size::OUTBOX_NEEDED;
@@ -240,6 +242,7 @@ impl Monitor {
         let mut used: usize = 0;
         let mut written: usize = 0;
         let mut calm = false;
+        let mut jets = [0u32; STRINGS];
         let mut mapped = [0u32; STRINGS];
         while written + OUTBOX_NEEDED <= out.len() {
             if calm {
@@ -253,6 +256,21 @@ impl Monitor {
                         continue;
                     }
                     left = 0;
+                }
+                let x = calm_major(
+                    hall,
+                    jets,
+                    mapped,
+                    piece,
+                    used,
+                    &mut out[written - REPORT..],
+                );
+                if x.yes {
+                    let h = x.hall;
+                    hall = h;
+                    used += MAJOR_LENGTH;
+                    written += REPORT;
+                    continue;
                 }
             }
             let t = turn(hall, &mut b[..], count, piece, used, &mut out[written..]);
@@ -275,8 +293,10 @@ impl Monitor {
             }
             let answer = t.answer;
             let after = calm_after(answer, count, hall);
+            let plain = after.jets;
             let words = after.mapped;
             calm = after.yes;
+            jets = plain;
             mapped = words;
             written += REPORT;
         }

@@ -11,39 +11,61 @@ ghost use Rattle.bits.specs.Bit.{wordBits};
 ghost use Rattle.cycle.specs.Size.{lastCount};
 ghost use Rattle.cycle.specs.Numbers.{isMajor};
 ghost use Rattle.cycle.specs.Calm.{mappedWords, allQuiet};
-ghost use Rattle.feed.specs.Size.{markByte, minorMark, minorLength, reportLength};
+ghost use Rattle.feed.specs.Size.{markByte, minorMark, minorLength, majorLength, reportLength};
 ghost use Rattle.feed.specs.Values.{minorOf};
 ghost use Rattle.feed.specs.Inside.Calm.{Words, turnedSample, turnedWords, passes, passesAt, renumbered, toldAgain, calmAfter};
 ghost use Rattle.feed.specs.Inside.Calm.{least, minorsAhead, stretch};
+ghost use Rattle.feed.specs.Inside.Calm.{noneAsked, allStill, majorPasses, majorPassesAt, rebanked, toldKept, keptBy};
 use crate::bytes::put_four;
 use crate::bytes::turned32;
 use crate::bytes::two_at;
 use crate::bytes::wide16;
+use crate::format::good_major;
 use crate::format::good_minor;
+use crate::report::put_banks;
 use crate::size::COUNT_AT;
+use crate::size::MAJOR_LENGTH;
+use crate::size::MAJOR_MARK;
+use crate::size::MARK;
 use crate::size::MINOR_LENGTH;
 use crate::size::MINOR_MARKS;
 use crate::size::OUTBOX_NEEDED;
 use crate::size::PATH_AT;
+use crate::size::QUANTITIES_FROM;
 use crate::size::REPORT;
+use crate::size::REQUESTS_FROM;
 use crate::size::SAMPLE_LENGTH;
 use crate::size::SAMPLES_FROM;
 use crate::size::STRINGS_FROM;
 use crate::size::WIRE_AT;
+use crate::step::some_leaks;
+use crate::values::quantities_of;
 use crate::values::sample_at;
 use cycle::answer::Answer;
+use cycle::banks::Bank;
 use cycle::calm::all_calm;
+use cycle::calm::finds_none;
 use cycle::hall::Hall;
 use cycle::map::mapped_words;
+use cycle::number::follows;
 use cycle::size::LAST_COUNT;
 use cycle::size::MAJOR_EVERY;
+use cycle::size::MODULES;
 use cycle::size::STRINGS;
+use cycle::values::Requests;
 use cycle::values::Sample;
 
 // Whether calm records can follow, and then each string's mapped jets, with the bytes in the order of a record.
 pub struct Calm {
     pub yes: bool,
+    pub jets: [u32; STRINGS],
     pub mapped: [u32; STRINGS],
+}
+
+// What a major record that may be calm leaves: whether it is, and the hall.
+pub struct Kept {
+    pub yes: bool,
+    pub hall: Hall,
 }
 
 // The words with their bytes in the other order.
@@ -82,12 +104,14 @@ pub(crate) fn calm_after(answer: Answer, count: usize, hall: Hall) -> Calm
         let words = turned_words(jets);
         Calm {
             yes: true,
+            jets: jets,
             mapped: words,
         }
     } else {
         let none = [0u32; STRINGS];
         Calm {
             yes: false,
+            jets: none,
             mapped: none,
         }
     }
@@ -209,4 +233,120 @@ pub(crate) fn calm_turn(
     }
     tell_again(&mut out[..REPORT + REPORT], hall.n + 1);
     true
+}
+
+// ---- major records
+
+// Is none of the requests and drops of a major record asked for, of any jet or manifold?
+fn none_asked(s: &[u8]) -> bool
+    requires { ⌜ majorLength ≤ length (now s) ⌝ }
+    ensures { λ r. ⌜ r ≡ noneAsked (now (s .entry)) ⌝ }
+{
+    let mut none = true;
+    let mut i: usize = 0;
+    while i < QUANTITIES_FROM - REQUESTS_FROM {
+        none = none & (s[REQUESTS_FROM + i] == 0);
+        i += 1;
+    }
+    none
+}
+
+// Do the samples of a major record that asks for nothing find nothing, in any of the eight steps?
+fn all_still(hall: Hall, jets: [u32; STRINGS], mapped: [u32; STRINGS], s: &[u8]) -> bool
+    requires { ⌜ (majorLength ≤ length (now s)) × (noneAsked (now s) ≡ true) ⌝ }
+    requires { ⌜ (jets ≡ mappedWords (hall .masks)) × (mapped ≡ turnedWords (mappedWords (hall .masks))) × Words (mappedWords (hall .masks)) ⌝ }
+    ensures { λ r. ⌜ r ≡ allStill hall (now (s .entry)) ⌝ }
+{
+    let none = Requests {
+        inhibit: 0,
+        reenable: 0,
+        drop: 0,
+    };
+    let strings = hall.strings;
+    let mut quiet = true;
+    let mut still = true;
+    let mut k: usize = 0;
+    while k < STRINGS {
+        let string = strings[k];
+        let on = string.on;
+        let sample = sample_at(s, SAMPLES_FROM + SAMPLE_LENGTH * k);
+        quiet = quiet & string.is_quiet(mapped[k], turned_sample(sample));
+        still = still & finds_none(on, string.close, jets[k], sample, none);
+        k += 1;
+    }
+    (s[PATH_AT] == 0) & quiet & still
+}
+
+// Are the bytes a good major record of the next cycle that finds nothing and asks for nothing?
+fn major_passes(hall: Hall, jets: [u32; STRINGS], mapped: [u32; STRINGS], s: &[u8]) -> bool
+    requires { ⌜ length (now s) ≡ majorLength ⌝ }
+    requires { ⌜ (jets ≡ mappedWords (hall .masks)) × (mapped ≡ turnedWords (mappedWords (hall .masks))) × Words (mappedWords (hall .masks)) ⌝ }
+    ensures { λ r. ⌜ r ≡ majorPasses hall (now (s .entry)) ⌝ }
+{
+    if s[0] != MARK {
+        return false;
+    }
+    if s[1] != MAJOR_MARK {
+        return false;
+    }
+    if !follows(hall.n, two_at(s, WIRE_AT), true) {
+        return false;
+    }
+    if !none_asked(s) {
+        return false;
+    }
+    if !all_still(hall, jets, mapped, s) {
+        return false;
+    }
+    if some_leaks(jets, s) {
+        return false;
+    }
+    good_major(s)
+}
+
+// The report in the first half is written again into the second, with another number and other banks.
+fn tell_banks(s: &mut [u8], n: u32, banks: [Bank; MODULES])
+    requires { ⌜ length (now s) ≡ reportLength + reportLength ⌝ }
+    ensures { λ r. ⌜ now (s .exit) ≡ take reportLength (now (s .entry)) ++ rebanked banks (renumbered n (take reportLength (now (s .entry)))) ⌝ }
+{
+    tell_again(s, n);
+    put_banks(&mut s[REPORT..], banks);
+}
+
+// Do the bytes of the piece from `from` on begin with a major record that passes? Then the number, the good copies and the banks are new,
+// and its report is written behind the one before, with which the outbox begins.
+pub(crate) fn calm_major(
+    hall: Hall,
+    jets: [u32; STRINGS],
+    mapped: [u32; STRINGS],
+    piece: &[u8],
+    from: usize,
+    out: &mut [u8],
+) -> Kept
+    requires { ⌜ (from ≤ length (now piece)) × (reportLength + reportLength ≤ length (now out)) ⌝ }
+    requires { ⌜ (jets ≡ mappedWords (hall .masks)) × (mapped ≡ turnedWords (mappedWords (hall .masks))) × Words (mappedWords (hall .masks)) ⌝ }
+    ensures { λ r. ⌜ r ≡ keptBy (majorPassesAt hall from (now (piece .entry))) hall from (now (piece .entry)) ⌝ }
+    ensures { λ r. ⌜ now (out .exit) ≡ cond (r .yes) (toldKept (r .hall) (now (out .entry))) (now (out .entry)) ⌝ }
+{
+    if piece.len() - from < MAJOR_LENGTH {
+        return Kept {
+            yes: false,
+            hall: hall,
+        };
+    }
+    let s = &piece[from..from + MAJOR_LENGTH];
+    if !major_passes(hall, jets, mapped, s) {
+        return Kept {
+            yes: false,
+            hall: hall,
+        };
+    }
+    let mut next = hall.kept_all(quantities_of(s));
+    next.n = next.n + 1;
+    let banks = next.banks;
+    tell_banks(&mut out[..REPORT + REPORT], next.n, banks);
+    Kept {
+        yes: true,
+        hall: next,
+    }
 }

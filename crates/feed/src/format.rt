@@ -133,7 +133,7 @@ pub(crate) fn good_minor(s: &[u8]) -> bool
 }
 
 // Is the full major record at the front good?
-fn good_major(s: &[u8]) -> bool
+pub(crate) fn good_major(s: &[u8]) -> bool
     requires { ⌜ majorLength ≤ length (now s) ⌝ }
     ensures { λ r. ⌜ r ≡ goodMajor (now (s .entry)) ⌝ }
 {

@@ -115,7 +115,7 @@ fn put_differences(out: &mut [u8], banks: [Bank; MODULES])
 }
 
 // The balance byte, the lesser quantities and the differences.
-fn put_banks(out: &mut [u8], banks: [Bank; MODULES])
+pub(crate) fn put_banks(out: &mut [u8], banks: [Bank; MODULES])
     requires { ⌜ reportLength ≤ length (now out) ⌝ }
     ensures { λ r. ⌜ now (out .exit) ≡ take balanceAt (now (out .entry)) ++ (banksBytes banks ++ drop reportLength (now (out .entry))) ⌝ }
 {

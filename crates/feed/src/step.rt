@@ -124,7 +124,7 @@ fn some_leak(mapped: u32, s: &[u8], i: usize) -> bool
 }
 
 // Does one of any string?
-fn some_leaks(mapped: [u32; STRINGS], s: &[u8]) -> bool
+pub(crate) fn some_leaks(mapped: [u32; STRINGS], s: &[u8]) -> bool
     requires { ⌜ majorLength ≤ length (now s) ⌝ }
     ensures { λ r. ⌜ r ≡ any stringCount (leakAt (now (s .entry)) mapped) ⌝ }
 {

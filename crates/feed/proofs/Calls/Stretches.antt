@@ -99,22 +99,22 @@ module _ (n left : ℕ) (x : Ahead n left) (some : 0 < left) where
 
 -- ---- the inner loop
 
-pub record Stretching (piece b mapped : List ℕ) (count : ℕ) (hall₀ : Hall) (used₀ written₀ : ℕ) (out₀ : List ℕ) (hall : Hall)
+pub record Stretching (piece b jets mapped : List ℕ) (count : ℕ) (hall₀ : Hall) (used₀ written₀ : ℕ) (out₀ : List ℕ) (hall : Hall)
     (used written : ℕ) (out : List ℕ) (left : ℕ) : Type 0 where
   -- what the outer loop keeps is kept
   pub loops : (m : Monitor) (outs : List ℕ) → Loops m piece outs hall₀ b count used₀ written₀ out₀
       → Loops m piece outs hall b count used written out
-  pub calmed : Calmed hall mapped count written out
+  pub calmed : Calmed hall jets mapped count written out
   pub on : written₀ ≤ written
   pub ahead : Ahead (hall .n) left
   pub fed : used + minorLength * left ≤ length piece
   pub room : written + reportLength * left + outboxNeeded ≤ length out
 
-pub stretch-starts : (piece b mapped : List ℕ) (count : ℕ) (hall : Hall) (used written : ℕ) (out : List ℕ) (left : ℕ)
-    → Calmed hall mapped count written out → used ≤ length piece → outboxNeeded ≤ length out - written
+pub stretch-starts : (piece b jets mapped : List ℕ) (count : ℕ) (hall : Hall) (used written : ℕ) (out : List ℕ) (left : ℕ)
+    → Calmed hall jets mapped count written out → used ≤ length piece → outboxNeeded ≤ length out - written
     → left ≡ stretch (hall .n) (length piece - used) (length out - written)
-    → Stretching piece b mapped count hall used written out hall used written out left
-stretch-starts piece b mapped count hall used written out left c within full e =
+    → Stretching piece b jets mapped count hall used written out hall used written out left
+stretch-starts piece b jets mapped count hall used written out left c within full e =
     let fits = stretch-fits (hall .n) (length piece - used) (length out - written) full in
     rw e (record {
       loops = λ m outs l. l;
@@ -126,11 +126,11 @@ stretch-starts piece b mapped count hall used written out left c within full e =
     })
 
 -- no more of them
-pub stretch-stops : (piece b mapped : List ℕ) (count : ℕ) (hall₀ : Hall) (used₀ written₀ : ℕ) (out₀ : List ℕ) (hall : Hall)
+pub stretch-stops : (piece b jets mapped : List ℕ) (count : ℕ) (hall₀ : Hall) (used₀ written₀ : ℕ) (out₀ : List ℕ) (hall : Hall)
     (used written : ℕ) (out : List ℕ) (left : ℕ)
-    → Stretching piece b mapped count hall₀ used₀ written₀ out₀ hall used written out left
-    → Stretching piece b mapped count hall₀ used₀ written₀ out₀ hall used written out 0
-stretch-stops piece b mapped count hall₀ used₀ written₀ out₀ hall used written out left x = record {
+    → Stretching piece b jets mapped count hall₀ used₀ written₀ out₀ hall used written out left
+    → Stretching piece b jets mapped count hall₀ used₀ written₀ out₀ hall used written out 0
+stretch-stops piece b jets mapped count hall₀ used₀ written₀ out₀ hall used written out left x = record {
   loops = x .loops;
   calmed = x .calmed;
   on = x .on;
@@ -139,8 +139,8 @@ stretch-stops piece b mapped count hall₀ used₀ written₀ out₀ hall used w
   room = omega (arith, x .room);
 }
 
-module _ (piece b mapped : List ℕ) (count : ℕ) (hall₀ : Hall) (used₀ written₀ : ℕ) (out₀ : List ℕ) (hall : Hall) (used written : ℕ)
-    (out : List ℕ) (left : ℕ) (x : Stretching piece b mapped count hall₀ used₀ written₀ out₀ hall used written out left)
+module _ (piece b jets mapped : List ℕ) (count : ℕ) (hall₀ : Hall) (used₀ written₀ : ℕ) (out₀ : List ℕ) (hall : Hall) (used written : ℕ)
+    (out : List ℕ) (left : ℕ) (x : Stretching piece b jets mapped count hall₀ used₀ written₀ out₀ hall used written out left)
     (some : 0 < left) where
   pub stretch-full : outboxNeeded ≤ length out - written
   stretch-full = omega (arith, x .room)
@@ -154,11 +154,11 @@ module _ (piece b mapped : List ℕ) (count : ℕ) (hall₀ : Hall) (used₀ wri
 
     goes : (m : Monitor) (outs : List ℕ) → Loops m piece outs hall b count used written out
         → Loops m piece outs (onward hall) b count (used + minorLength) (written + reportLength) after
-        × Calmed (onward hall) mapped count (written + reportLength) after
-    goes m outs s = calm-goes m piece outs hall b mapped count used written out s (x .calmed) stretch-full pass o e
+        × Calmed (onward hall) jets mapped count (written + reportLength) after
+    goes m outs s = calm-goes m piece outs hall b jets mapped count used written out s (x .calmed) stretch-full pass o e
 
     pub stretch-goes : (m : Monitor) (outs : List ℕ) → Loops m piece outs hall₀ b count used₀ written₀ out₀
-        → Stretching piece b mapped count hall₀ used₀ written₀ out₀ (onward hall) (used + minorLength) (written + reportLength) after
+        → Stretching piece b jets mapped count hall₀ used₀ written₀ out₀ (onward hall) (used + minorLength) (written + reportLength) after
         (left - 1)
     stretch-goes m outs l =
         let now = x .loops m outs l in

@@ -1,28 +1,33 @@
 -- Calm records: bytes that change nothing but the number, and their reports. That this is what a call does is proved (proofs/Calls/Calms).
 -- Assumes nothing.
-use mathlib.Core.Bool.{Bool, true, false, cond, _&&_}
+use mathlib.Core.Bool.{Bool, true, false, cond, not, _&&_}
 use mathlib.Core.List.{List, _++_}
 use Prim.Native.Nat.{ℕ, _+_, _-_, _*_, _/_, _%_, _^_, _<_}
 use lib.Dec.{eqb, ltb}
 use lib.ListN.{length, getD, take, drop, replicate}
-use Rattle.bits.specs.Bit.{wordBits, any}
+use Rattle.bits.specs.Bit.{wordBits, any, every}
 use Rattle.cycle.specs.Size.{stringCount, majorEvery, lastCount}
 use Rattle.cycle.specs.Each.{each}
 use Rattle.cycle.specs.Answers.{isTaken}
 use Rattle.cycle.specs.Leak.{cold}
-use Rattle.cycle.specs.Calm.{allCalm, mappedWords, follows, allQuiet, findsNone, someLeak}
+use Rattle.cycle.specs.Hall.{stringOf}
+use Rattle.cycle.specs.Calm.{allCalm, mappedWords, follows, allQuiet, findsNone, someLeak, keptAll, onward}
+use Rattle.cycle.specs.declared.banks.Bank.{Bank}
 use Rattle.cycle.specs.declared.answer.Answer.{Answer}
 use Rattle.cycle.specs.declared.hall.Hall.{Hall}
 use Rattle.cycle.specs.declared.string.OnSlots.{OnSlots}
 use Rattle.cycle.specs.declared.values.Sample.{Sample}
-use Rattle.feed.specs.Size.{markByte, minorMark, minorLength, wireAt, countAt, stringsFrom, reportLength, outboxNeeded}
+use Rattle.feed.specs.Size.{markByte, minorMark, majorMark, majorLength, balanceAt, quantitiesFrom}
+use Rattle.feed.specs.Size.{minorLength, wireAt, countAt, stringsFrom, reportLength, outboxNeeded}
 use Rattle.feed.specs.Size.{temperatureLength, temperatureCount, temperaturesFrom, temperaturesLength, samplesFrom, sampleLength}
 use Rattle.feed.specs.Size.{requestsFrom, requestsLength, dropsFrom}
 use Rattle.feed.specs.Bytes.{two, inFour}
-use Rattle.feed.specs.Format.{goodMinor}
-use Rattle.feed.specs.Values.{sampleAt, minorOf, temperaturesAt, requestsAt}
+use Rattle.feed.specs.Format.{goodMinor, goodMajor}
+use Rattle.feed.specs.Report.{banksBytes}
+use Rattle.feed.specs.Values.{sampleAt, minorOf, temperaturesAt, requestsAt, quantitiesOf}
 use Rattle.feed.specs.Inside.LowFirst.{turned}
 use Rattle.feed.specs.declared.calm.Calm.{Calm}
+use Rattle.feed.specs.declared.calm.Kept.{Kept}
 
 -- commanded and pressure words with their bytes in the other order, as they stand in the record: bits are told byte by byte
 abbrev pub turnedSample : Sample → Sample
@@ -39,8 +44,8 @@ turnedWords words = each stringCount (λ s x. turned x) 0 words
 -- calm records can follow a taken one that left nothing in the store and nothing under way
 unfoldable pub calmAfter : Answer → ℕ → Hall → Calm
 calmAfter a count h =
-    cond (isTaken a && (eqb count 0 && allCalm stringCount (h .strings))) (record { yes = true; mapped = turnedWords (mappedWords (h .masks)) })
-    (record { yes = false; mapped = replicate stringCount 0 })
+    cond (isTaken a && (eqb count 0 && allCalm stringCount (h .strings))) (record { yes = true; jets = mappedWords (h .masks); mapped = turnedWords (mappedWords (h .masks)) })
+    (record { yes = false; jets = replicate stringCount 0; mapped = replicate stringCount 0 })
 
 -- the bytes are a good minor record of the next cycle that finds nothing
 unfoldable pub passes : Hall → List ℕ → Bool
@@ -90,3 +95,44 @@ leakAt l jets s = someLeak (getD jets s 0) (temperaturesAt l (temperaturesFrom +
 abbrev pub noneFound : List ℕ → ℕ → OnSlots → ℕ → ℕ → Bool
 noneFound l jets on close s =
     findsNone jets (sampleAt l (samplesFrom + sampleLength * s)) (requestsAt l (requestsFrom + requestsLength * s) (dropsFrom + s)) on close
+
+-- no byte of the requests and drops is set, of whatever jet or manifold
+unfoldable pub noneAsked : List ℕ → Bool
+noneAsked l = every (quantitiesFrom - requestsFrom) (λ i. eqb (getD l (requestsFrom + i) 0) 0)
+
+-- steps 5 to 8 find nothing in string s of a hall but what its temperatures say
+abbrev pub noneFoundIn : Hall → List ℕ → ℕ → Bool
+noneFoundIn h l s = noneFound l (getD (mappedWords (h .masks)) s 0) ((stringOf h s) .on) ((stringOf h s) .close) s
+
+-- no sample finds anything
+abbrev pub allStill : Hall → List ℕ → Bool
+allStill h l = allQuiet (minorOf l) h && every stringCount (noneFoundIn h l)
+
+-- the bytes are a good major record of the next cycle that asks for nothing and finds nothing
+unfoldable pub majorPasses : Hall → List ℕ → Bool
+majorPasses h l =
+    eqb (getD l 0 0) markByte
+    && (eqb (getD l 1 0) majorMark
+    && (follows (h .n) (two l wireAt) true
+    && (noneAsked l && (allStill h l && (not (any stringCount (leakAt l (mappedWords (h .masks)))) && goodMajor l)))))
+
+abbrev pub majorPassesAt : Hall → ℕ → List ℕ → Bool
+majorPassesAt h from piece = cond (ltb (length piece - from) majorLength) false (majorPasses h (take majorLength (drop from piece)))
+
+-- the hall that it leaves
+abbrev pub keptAfter : Hall → ℕ → List ℕ → Hall
+keptAfter h from piece = keptAll (quantitiesOf (take majorLength (drop from piece))) (onward h)
+
+-- a report with other banks
+unfoldable pub rebanked : List Bank → List ℕ → List ℕ
+rebanked banks report = take balanceAt report ++ banksBytes banks
+
+-- an outbox that begins with a report: behind it the same one with the number and the banks of a hall
+abbrev pub toldKept : Hall → List ℕ → List ℕ
+toldKept h out =
+    let report = take reportLength out in
+    report ++ (rebanked (h .banks) (renumbered (h .n) report) ++ drop (reportLength + reportLength) out)
+
+-- what is left, if it passes and if not
+abbrev pub keptBy : Bool → Hall → ℕ → List ℕ → Kept
+keptBy b h from piece = record { yes = b; hall = cond b (keptAfter h from piece) h }

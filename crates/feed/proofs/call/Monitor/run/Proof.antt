@@ -11,7 +11,7 @@ use lib.ListN.{length, take, length-drop}
 use lib.Seq.{length-take-le}
 use Rattle.cycle.specs.Size.{lastCount}
 use Rattle.bits.proofs.Yes.{not-both, not-true, not-no}
-use Rattle.feed.specs.Size.{minorLength, storeLength, mostHeld, reportLength, outboxNeeded}
+use Rattle.feed.specs.Size.{storeLength, mostHeld, reportLength, outboxNeeded}
 use Rattle.feed.specs.Inside.Calm.{passesAt}
 use Rattle.feed.specs.Call.{runs}
 use Rattle.feed.specs.declared.calm.Calm.{Calm}
@@ -19,24 +19,24 @@ use Rattle.feed.proofs.Reading.Found.{rest-whole}
 use Rattle.feed.proofs.Calls.Calling.{InOrder, put-in-order, held-short}
 use Rattle.feed.proofs.Calls.Running.{monitorAt, Loops, loop-starts, out-long, loop-ends, loop-leaves, loop-goes, no-room, put-rest}
 use Rattle.feed.proofs.Calls.Running.{runs-start}
-use Rattle.feed.proofs.Calls.CalmRuns.{Calmed, part-kept, calm-room, calm-left}
+use Rattle.feed.proofs.Calls.CalmRuns.{Calmed, part-kept, calm-room, major-there, major-goes, calm-left}
 use Rattle.feed.proofs.Calls.Stretches.{Stretching, ahead-below, ahead-minor, stretch-starts, stretch-stops, stretch-full, stretch-goes}
 use Rattle.feed.proofs.call.Monitor.run.Statement.{statement}
 use Rattle.feed.proofs.call.Monitor.run.Tie as tie
 
 abbrev Inv-loop2 : tie.InvT-loop2
-Inv-loop2 piece out₀ hall₀ b count used₀ written₀ calm mapped left₀ out hall used written left =
-    Stretching piece b mapped count hall₀ used₀ written₀ out₀ hall used written out left
+Inv-loop2 piece out₀ hall₀ b count used₀ written₀ calm jets mapped left₀ out hall used written left =
+    Stretching piece b jets mapped count hall₀ used₀ written₀ out₀ hall used written out left
 
 abbrev μ-loop2 : tie.MeasureT-loop2
-μ-loop2 piece out₀ hall₀ b count used₀ written₀ calm mapped left₀ out hall used written left = left
+μ-loop2 piece out₀ hall₀ b count used₀ written₀ calm jets mapped left₀ out hall used written left = left
 
 abbrev Inv-loop : tie.InvT-loop
-Inv-loop piece out₀ hall₀ b₀ count₀ used₀ written₀ calm₀ mapped₀ out hall b count used written calm mapped =
-    Loops (monitorAt hall₀ b₀ count₀) piece out₀ hall b count used written out × (calm ≡ true → Calmed hall mapped count written out)
+Inv-loop piece out₀ hall₀ b₀ count₀ used₀ written₀ calm₀ jets₀ mapped₀ out hall b count used written calm jets mapped =
+    Loops (monitorAt hall₀ b₀ count₀) piece out₀ hall b count used written out × (calm ≡ true → Calmed hall jets mapped count written out)
 
 abbrev μ-loop : tie.MeasureT-loop
-μ-loop piece out₀ hall₀ b₀ count₀ used₀ written₀ calm₀ mapped₀ out hall b count used written calm mapped = length out₀ - written
+μ-loop piece out₀ hall₀ b₀ count₀ used₀ written₀ calm₀ jets₀ mapped₀ out hall b count used written calm jets mapped = length out₀ - written
 
 -- ---- the store put in order
 
@@ -111,7 +111,7 @@ sub-stretch-2 c = within (c .before .before)
 loop2-holds : tie.Need-loop2-holds Inv-loop2 μ-loop2 Inv-loop μ-loop
 loop2-holds c =
     let l = c .before .before .before .loop in
-    stretch-starts _ _ _ _ _ _ _ _ _ (l .inv .1 (c .before .if2 .taken)) (l .inv .0 .within) (room-for-one (c .before .before))
+    stretch-starts _ _ _ _ _ _ _ _ _ _ (l .inv .1 (c .before .if2 .taken)) (l .inv .0 .within) (room-for-one (c .before .before))
     (c .stretch .ensures)
 
 -- the outer loop, and what it keeps here
@@ -134,10 +134,10 @@ calm-turn-requires c κs =
     let x = l .loop2 .inv in (
       (
         omega (arith, x .fed, some),
-        calm-room _ _ _ _ _ _ _ _ _ _ (here l) (x .calmed) (omega (arith, x .room)),
+        calm-room _ _ _ _ _ _ _ _ _ _ _ (here l) (x .calmed) (omega (arith, x .room)),
       ),
       (
-        (x .calmed .jets, x .calmed .words),
+        (x .calmed .turned, x .calmed .words),
         (ahead-below (l .loop2 .hall .n) (l .loop2 .left) (x .ahead) some, ahead-minor (l .loop2 .hall .n) (l .loop2 .left) (x .ahead) some),
       ),
     )
@@ -183,7 +183,7 @@ loop2-again c =
     let o = at-turn .calm-turn .last .1 .1 .1 .1 .0 in
     let fed = entry (outer l .before .before) .args .piece .now in
     let pass : passesAt (l .loop2 .hall) (l .loop2 .used) fed ≡ true = sym (at-turn .calm-turn .ensures .0) ∙ c .before .if3 .taken in
-    stretch-goes _ _ _ _ _ _ _ _ _ _ _ _ _ (l .loop2 .inv) (passing (c .before) .loop2-test .taken) pass o
+    stretch-goes _ _ _ _ _ _ _ _ _ _ _ _ _ _ (l .loop2 .inv) (passing (c .before) .loop2-test .taken) pass o
     (rw pass at (at-turn .calm-turn .ensures .1)) _ _ (outer l .loop .inv .0)
 
 -- and where it has not: the outbox is as it was
@@ -198,7 +198,57 @@ loop2-again-2 c =
     let fails = sym (at-turn .calm-turn .ensures .0) ∙ c .if3 .left in
     rw (part-kept (l .loop2 .written - reportLength) (l .loop2 .out) o (last-within (at-turn .before .before))
     (rw fails at (at-turn .calm-turn .ensures .1)))
-    (stretch-stops _ _ _ _ _ _ _ _ _ _ _ _ _ (l .loop2 .inv))
+    (stretch-stops _ _ _ _ _ _ _ _ _ _ _ _ _ _ (l .loop2 .inv))
+
+-- ---- a calm major record
+
+major-within : (c : tie.After-loop2 Inv-loop2 μ-loop2 Inv-loop μ-loop) → c .before .loop2 .written - reportLength ≤ length (c .before .loop2 .out)
+major-within c = omega (arith, c .before .loop2 .inv .room)
+
+major-room : (c : tie.At-loop2 Inv-loop2 μ-loop2 Inv-loop μ-loop) → outboxNeeded ≤ length (c .loop2 .out) - c .loop2 .written
+major-room c = omega (arith, c .loop2 .inv .room)
+
+calm-major-requires : tie.Need-calm-major-requires Inv-loop2 μ-loop2 Inv-loop μ-loop
+calm-major-requires c κs =
+    let l = c .before .before in
+    let x = l .loop2 .inv in (
+      (here l .within, calm-room _ _ _ _ _ _ _ _ _ _ _ (here l) (x .calmed) (major-room l)),
+      (x .calmed .plain, x .calmed .turned, x .calmed .words),
+    )
+
+-- where it has passed
+module _ (c : tie.Then4 Inv-loop2 μ-loop2 Inv-loop μ-loop) where
+  abbrev kept-turn : tie.After-calm-major Inv-loop2 μ-loop2 Inv-loop μ-loop
+  kept-turn = c .before .before .before
+
+  abbrev behind : tie.At-loop2 Inv-loop2 μ-loop2 Inv-loop μ-loop
+  behind = kept-turn .before .before .before
+
+major-used : tie.Need-add-used-2 Inv-loop2 μ-loop2 Inv-loop μ-loop
+major-used c =
+    let at-turn = kept-turn (c .before) in
+    let l = behind (c .before) in
+    let there = major-there _ _ _ _ _ _ _ _ _ _ _ (here l) (l .loop2 .inv .calmed) (major-room l) (at-turn .calm-major .result)
+    (at-turn .calm-major .ensures .0) (c .before .if4 .taken) in
+    omega (arith, there, here l .within, entry (outer l .before .before) .good)
+
+major-written : tie.Need-add-written-2 Inv-loop2 μ-loop2 Inv-loop μ-loop
+major-written c =
+    let l = behind (c .before) in
+    omega (arith, l .loop2 .inv .room, out-long _ _ _ _ _ _ _ _ _ (here l), entry (outer l .before .before) .good)
+
+major-less : tie.Need-loop-less Inv-loop2 μ-loop2 Inv-loop μ-loop
+major-less c =
+    let l = behind (c .before) in
+    omega (arith, l .loop2 .inv .room, l .loop2 .inv .on, out-long _ _ _ _ _ _ _ _ _ (here l))
+
+major-again : tie.Need-loop-again Inv-loop2 μ-loop2 Inv-loop μ-loop
+major-again c =
+    let at-turn = kept-turn (c .before) in
+    let l = behind (c .before) in
+    let g = major-goes _ _ _ _ _ _ _ _ _ _ _ (here l) (l .loop2 .inv .calmed) (major-room l) (at-turn .calm-major .result)
+    (at-turn .calm-major .ensures .0) (c .before .if4 .taken) (at-turn .calm-major .last .1 .1 .1 .1 .1 .0) (at-turn .calm-major .ensures .1) in
+    (g .0, λ y. g .1)
 
 -- ---- any other record
 
@@ -213,7 +263,12 @@ came-here : (c : tie.Joined2 Inv-loop2 μ-loop2 Inv-loop μ-loop)
 came-here c =
     let l = c .before .before .loop in
     ⊎-elim
-    (λ w. rw (w .4, w .5, w .6, w .7) (w .2 .inv .loops _ _ (l .inv .0), omega (arith, w .2 .inv .room), w .2 .inv .on))
+    (λ w.
+    let x = w .2 .inv in
+    let kept-out = w .9
+    ∙ part-kept (w .2 .written - reportLength) (w .2 .out) (w .5 .last .1 .1 .1 .1 .1 .0) (omega (arith, x .room))
+    (rw (w .8 .left) at (w .5 .ensures .1)) in
+    rw (kept-out, w .10, w .11, w .12) (x .loops _ _ (l .inv .0), omega (arith, x .room), x .on))
     (λ w. rw (w .1, w .2, w .3, w .4) (l .inv .0, room-for-one (c .before), omega arith)) (c .if2 .came)
 
 loops : (c : tie.Joined2 Inv-loop2 μ-loop2 Inv-loop μ-loop)
@@ -280,27 +335,27 @@ returns-2 c =
     let before = j .before .before in
     rw (put-rest (j .if2 .written) (j .if2 .out) (left at-turn) (still-within j), ← same-run (before .before .before))
     (loop-leaves _ _ _ _ _ _ _ _ _ (loops j) (at-turn .turn .result) (at-turn .turn .last .1 .0) (left at-turn)
-    (still-room j) t (not-true (at-turn .turn .result .settled) (c .if4 .taken)))
+    (still-room j) t (not-true (at-turn .turn .result .settled) (c .if5 .taken)))
 
-add-written : tie.Need-add-written-2 Inv-loop2 μ-loop2 Inv-loop μ-loop
+add-written : tie.Need-add-written-3 Inv-loop2 μ-loop2 Inv-loop μ-loop
 add-written c =
-    let j = joined (c .before .before .before .before .before .before .before .before) in
+    let j = joined (c .before .before .before .before .before .before .before .before .before) in
     omega (arith, still-within j, out-long _ _ _ _ _ _ _ _ _ (loops j), still-room j, entry (j .before .before .before .before) .good)
 
-loop-less : tie.Need-loop-less Inv-loop2 μ-loop2 Inv-loop μ-loop
+loop-less : tie.Need-loop-less-2 Inv-loop2 μ-loop2 Inv-loop μ-loop
 loop-less c =
-    let j = joined (c .before .before .before .before .before .before .before .before) in
+    let j = joined (c .before .before .before .before .before .before .before .before .before) in
     omega (arith, loops j .room, out-long _ _ _ _ _ _ _ _ _ (loops j), still-room j, still-on j)
 
-loop-again : tie.Need-loop-again Inv-loop2 μ-loop2 Inv-loop μ-loop
+loop-again : tie.Need-loop-again-2 Inv-loop2 μ-loop2 Inv-loop μ-loop
 loop-again c =
-    let at-turn = c .before .before .before .before .before .before .before .before in
+    let at-turn = c .before .before .before .before .before .before .before .before .before in
     let j = joined at-turn in
     let written = j .if2 .written in
     let r = at-turn .turn .result in
     let t = rw rest-whole at (at-turn .turn .ensures) in
-    let settled = not-no (r .settled) (c .before .before .if4 .left) in
-    let after = c .before .calm-after in
+    let settled = not-no (r .settled) (c .before .before .before .if5 .left) in
+    let after = c .before .before .calm-after in
     rw (put-rest written (j .if2 .out) (left at-turn) (still-within j)) (
       loop-goes _ _ _ _ _ _ _ _ _ (loops j) r (at-turn .turn .last .1 .0) (left at-turn) (still-room j) t settled,
       λ y.
@@ -322,5 +377,5 @@ run-spec =
     tie.close
     (tie.spec Inv-loop2 μ-loop2 Inv-loop μ-loop returns (λ c κs. search needs) sub-clear part-b-start part-b-end (λ c κs. search needs) loop-holds add-loop
     sub-stretch sub-stretch-2 (λ c κs. search needs) loop2-holds (λ c. c .before .loop2 .inv .calmed .told) last-within last-within (λ c. search needs)
-    calm-turn-requires add-hall add-used calm-written sub-left loop2-less loop2-again loop2-less-2 loop2-again-2 slice-aggregate-turn sub-turn part-turn-start (λ c. search needs) turn-requires same-length returns-2 (λ c κs. search needs) add-written
+    calm-turn-requires add-hall add-used calm-written sub-left loop2-less loop2-again loop2-less-2 loop2-again-2 (λ c. c .before .loop2 .inv .calmed .told) major-within major-within (λ c. search needs) calm-major-requires major-used major-written major-less major-again slice-aggregate-turn sub-turn part-turn-start (λ c. search needs) turn-requires same-length returns-2 (λ c κs. search needs) add-written
     loop-less loop-again same-length-2 returns-3)
