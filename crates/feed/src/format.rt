@@ -45,6 +45,16 @@ pub enum Look {
     Settles(Kind),
 }
 
+// The sum of a minor record is taken by spans of 32, 16 and 8 bytes, from its end, and the byte that is left. The compiler adds a span by a
+// few wide instructions, as long as nothing joins the sums again: hence the branch between them.
+const SPAN: usize = 32;
+
+const LAST_FROM: usize = MINOR_SUMMED - SPAN;
+
+const MIDDLE_FROM: usize = LAST_FROM - SPAN / 2;
+
+const FIRST_FROM: usize = MIDDLE_FROM - SPAN / 4;
+
 // What this second byte makes of a mark.
 pub(crate) fn mark_of(b: u8) -> Mark
     ensures { λ r. ⌜ r ≡ markOf b ⌝ }
@@ -126,7 +136,17 @@ pub(crate) fn good_minor(s: &[u8]) -> bool
     requires { ⌜ minorLength ≤ length (now s) ⌝ }
     ensures { λ r. ⌜ r ≡ goodMinor (now (s .entry)) ⌝ }
 {
-    if two_at(s, MINOR_SUMMED) != sum(&s[..MINOR_SUMMED]) {
+    let rest = std::num::wrapping_sub_u16(
+        two_at(s, MINOR_SUMMED),
+        sum(&s[LAST_FROM..MINOR_SUMMED]),
+    );
+    let middle = sum(&s[MIDDLE_FROM..LAST_FROM]);
+    // The sum of the bytes before the last span does not wrap: it is no less than that of the middle one.
+    if rest < middle {
+        return false;
+    }
+    let first = std::num::wrapping_add_u16(sum(&s[..FIRST_FROM]), sum(&s[FIRST_FROM..MIDDLE_FROM]));
+    if std::num::wrapping_sub_u16(rest, middle) != first {
         return false;
     }
     reserved_zero(s)

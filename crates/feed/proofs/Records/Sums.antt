@@ -1,13 +1,14 @@
--- The sum of bytes, one byte more; and what decides whether a record is good where the tests before it hold. Assumes nothing.
-use Prim.Native.Nat.{ℕ, _+_, _%_, _^_, _<_}
-use mathlib.Core.Path.{_≡_, refl, sym, _∙_}
+-- The sum of bytes, one byte more, and partial sums; and what decides whether a record is good where the tests before it hold.
+-- Assumes nothing.
+use Prim.Native.Nat.{ℕ, zero, suc, _+_, _*_, _%_, _^_, _≤_, _<_}
+use mathlib.Core.Path.{_≡_, refl, sym, ap, ap₂, _∙_}
 use mathlib.Core.Bool.{Bool, true, false, _&&_}
 use mathlib.Core.List.{List, [], _∷_, _++_}
-use native.Mathlib.Nat.{mod-add-mod}
+use native.Mathlib.Nat.{mod-add-mod, add-mod}
 use native.Mathlib.Numerals.{add-one}
 use native.Mathlib.Omega.{arith}
-use lib.ListN.{length, getD, take}
-use lib.Seq.{take-suc}
+use lib.ListN.{length, getD, take, drop}
+use lib.Seq.{take-suc, take-add}
 use borrow.Author.Tests.{eq-eqb, ne-eqb}
 use Rattle.feed.specs.Size.{sumSpan, minorSummed, majorSummed, majorLength}
 use Rattle.feed.specs.Bytes.{two}
@@ -23,16 +24,52 @@ pub sum-more : (s : List ℕ) (i : ℕ) → i < length s → (sumOf (take i s) +
 unfolding sumOf
 sum-more s i h = rw (add-one, take-suc s i 0, total-snoc) (mod-add-mod (total (take i s)) sumSpan (getD s i 0))
 
+-- ---- partial sums
+
+total-append : (l m : List ℕ) → total (l ++ m) ≡ total l + total m
+unfolding total
+total-append [] m = omega arith
+total-append (b ∷ l) m = omega (arith, total-append l m)
+
+total-span : (l : List ℕ) (i k : ℕ) → total (take (i + k) l) ≡ total (take i l) + total (take k (drop i l))
+total-span l i k = ap total (take-add i k l) ∙ total-append (take i l) (take k (drop i l))
+
+-- joined by the wrapping addition they come to the sum of all bytes
+pub sum-span : (l : List ℕ) (i k : ℕ) → (sumOf (take i l) + sumOf (take k (drop i l))) % 2 ^ 16 ≡ sumOf (take (i + k) l)
+unfolding sumOf
+sum-span l i k = rw (total-span l i k) (sym (add-mod (total (take i l)) (total (take k (drop i l))) sumSpan))
+
+-- r is what is left of g without the sum b of the last k bytes: g is the sum of i + k bytes if r is that of the first i, and only then
+module _ (l : List ℕ) (i k g b r : ℕ) (eb : b ≡ sumOf (take k (drop i l))) (er : (r + b) % 2 ^ 16 ≡ g) where
+  pub rest-right : r ≡ sumOf (take i l) → g ≡ sumOf (take (i + k) l)
+  rest-right e = sym er ∙ ap₂ (λ (x y : ℕ). (x + y) % 2 ^ 16) e eb ∙ sum-span l i k
+
+  pub rest-of-right : r < 2 ^ 16 → g ≡ sumOf (take (i + k) l) → r ≡ sumOf (take i l)
+  unfolding sumOf
+  rest-of-right h e = omega (arith, sum-span l i k)
+
+total-most : (n : ℕ) (l : List ℕ) → ((i : ℕ) → getD l i 0 < 256) → total (take n l) ≤ 255 * n
+unfolding total
+total-most zero l h = omega arith
+total-most (suc n) [] h = omega arith
+total-most (suc n) (b ∷ l) h = omega (arith, h 0, total-most n l (λ i. h (suc i)))
+
+-- the sum of so few bytes does not wrap, and so is no less than that of a part
+pub part-most : (l : List ℕ) → ((i : ℕ) → getD l i 0 < 256) → (i k : ℕ) → i + k ≤ 257
+    → sumOf (take k (drop i l)) ≤ sumOf (take (i + k) l)
+unfolding sumOf
+part-most l h i k few = omega (arith, total-most (i + k) l h, total-span l i k)
+
 -- with the sum right, the rest decides
+pub minor-sum : (l : List ℕ) → two l minorSummed ≡ sumOf (take minorSummed l) → reservedZero l ≡ goodMinor l
+unfolding goodMinor
+minor-sum l e = simp (eq-eqb _ _ e)
+
+pub minor-bad : (l : List ℕ) → (two l minorSummed ≡ sumOf (take minorSummed l) → ⊥) → false ≡ goodMinor l
+unfolding goodMinor
+minor-bad l h = simp (ne-eqb _ _ h)
+
 module _ (l : List ℕ) (g s : ℕ) where
-  pub minor-sum : g ≡ two l minorSummed → s ≡ sumOf (take minorSummed l) → g ≡ s → reservedZero l ≡ goodMinor l
-  unfolding goodMinor
-  minor-sum e f h = simp (eq-eqb _ _ (sym e ∙ h ∙ f))
-
-  pub minor-bad : g ≡ two l minorSummed → s ≡ sumOf (take minorSummed l) → (g ≡ s → ⊥) → false ≡ goodMinor l
-  unfolding goodMinor
-  minor-bad e f h = simp (ne-eqb _ _ (λ q. h (e ∙ q ∙ sym f)))
-
   pub major-sum : g ≡ two l majorSummed → s ≡ sumOf (take majorSummed l) → g ≡ s
       → (reservedZero l && quantitiesRight l) ≡ goodMajor l
   unfolding goodMajor
