@@ -45,15 +45,18 @@ pub enum Look {
     Settles(Kind),
 }
 
-// The sum of a minor record is taken by spans of 32, 16 and 8 bytes, from its end, and the byte that is left. The compiler adds a span by a
-// few wide instructions, as long as nothing joins the sums again: hence the branch between them.
+// A record's sum is taken by spans: the compiler adds 8, 16, 32 or 64 bytes by a few wide instructions, as long as it does not join them
+// with others. So the last span is taken off what the record says its sum is, and a branch or a loop parts the spans before it.
 const SPAN: usize = 32;
 
-const LAST_FROM: usize = MINOR_SUMMED - SPAN;
+const LONG_SPAN: usize = 2 * SPAN;
 
-const MIDDLE_FROM: usize = LAST_FROM - SPAN / 2;
+// Where the last span begins; and in a minor record the one before it, which is half as long.
+const MINOR_LAST: usize = MINOR_SUMMED - SPAN;
 
-const FIRST_FROM: usize = MIDDLE_FROM - SPAN / 4;
+const MINOR_MIDDLE: usize = MINOR_LAST - SPAN / 2;
+
+const MAJOR_LAST: usize = MAJOR_SUMMED - SPAN;
 
 // What this second byte makes of a mark.
 pub(crate) fn mark_of(b: u8) -> Mark
@@ -101,6 +104,19 @@ pub fn sum(s: &[u8]) -> u16
     t
 }
 
+// The same, by long spans.
+fn sum_by_spans(s: &[u8]) -> u16
+    ensures { λ r. ⌜ r ≡ sumOf (now (s .entry)) ⌝ }
+{
+    let mut t: u16 = 0;
+    let mut at: usize = 0;
+    while LONG_SPAN <= s.len() - at {
+        t = std::num::wrapping_add_u16(t, sum(&s[at..at + LONG_SPAN]));
+        at += LONG_SPAN;
+    }
+    std::num::wrapping_add_u16(t, sum(&s[at..]))
+}
+
 // Are the reserved bits of the path byte zero?
 fn reserved_zero(s: &[u8]) -> bool
     requires { ⌜ minorLength ≤ length (now s) ⌝ }
@@ -138,15 +154,14 @@ pub(crate) fn good_minor(s: &[u8]) -> bool
 {
     let rest = std::num::wrapping_sub_u16(
         two_at(s, MINOR_SUMMED),
-        sum(&s[LAST_FROM..MINOR_SUMMED]),
+        sum(&s[MINOR_LAST..MINOR_SUMMED]),
     );
-    let middle = sum(&s[MIDDLE_FROM..LAST_FROM]);
+    let middle = sum(&s[MINOR_MIDDLE..MINOR_LAST]);
     // The sum of the bytes before the last span does not wrap: it is no less than that of the middle one.
     if rest < middle {
         return false;
     }
-    let first = std::num::wrapping_add_u16(sum(&s[..FIRST_FROM]), sum(&s[FIRST_FROM..MIDDLE_FROM]));
-    if std::num::wrapping_sub_u16(rest, middle) != first {
+    if std::num::wrapping_sub_u16(rest, middle) != sum(&s[..MINOR_MIDDLE]) {
         return false;
     }
     reserved_zero(s)
@@ -161,7 +176,11 @@ fn good_major(s: &[u8]) -> bool
     if !reserved_zero(s) {
         return false;
     }
-    if two_at(s, MAJOR_SUMMED) != sum(&s[..MAJOR_SUMMED]) {
+    let rest = std::num::wrapping_sub_u16(
+        two_at(s, MAJOR_SUMMED),
+        sum(&s[MAJOR_LAST..MAJOR_SUMMED]),
+    );
+    if rest != sum_by_spans(&s[..MAJOR_LAST]) {
         return false;
     }
     quantities_right(s)

@@ -14,12 +14,12 @@ use Rattle.feed.proofs.Records.Sums.{sum-span, rest-right, rest-of-righ
 use Rattle.feed.proofs.format.good_minor.Statement.{statement}
 use Rattle.feed.proofs.format.good_minor.Tie as tie
 
--- the spans
-abbrev lastFrom : ℕ
-lastFrom = 25
+-- where the last span begins, and the one before it
+abbrev last : ℕ
+last = 25
 
-abbrev middleFrom : ℕ
-middleFrom = 9
+abbrev middle : ℕ
+middle = 9
 
 -- where the sums of the last and the middle span are known: the bytes
 abbrev bytes : tie.After-sum2 → List ℕ
@@ -31,56 +31,48 @@ Right c = two (bytes c) minorSummed ≡ sumOf (take minorSummed (bytes c))
 
 -- and the same without the last span
 abbrev RestRight : tie.After-sum2 → Type 0
-RestRight c = c .before .before .wrapping-sub-u16 .result ≡ sumOf (take lastFrom (bytes c))
+RestRight c = c .before .before .wrapping-sub-u16 .result ≡ sumOf (take last (bytes c))
 
 right : (c : tie.After-sum2) → RestRight c → Right c
 right c =
     let at-sub = c .before .before in
-    rest-right (bytes c) lastFrom 32 _ _ _ (at-sub .before .sum .ensures)
+    rest-right (bytes c) last 32 _ _ _ (at-sub .before .sum .ensures)
     (at-sub .wrapping-sub-u16 .ensures ∙ at-sub .before .before .before .two-at .ensures)
 
 of-right : (c : tie.After-sum2) → Right c → RestRight c
 of-right c =
     let at-sub = c .before .before in
-    rest-of-right (bytes c) lastFrom 32 _ _ _ (at-sub .before .sum .ensures)
+    rest-of-right (bytes c) last 32 _ _ _ (at-sub .before .sum .ensures)
     (at-sub .wrapping-sub-u16 .ensures ∙ at-sub .before .before .before .two-at .ensures) (at-sub .wrapping-sub-u16 .ok)
 
 returns : tie.Need-returns
 returns c =
     let known = c .before .before .before .before .before .before .before in
     let l = bytes (c .before) in
-    let most = part-most l (λ i. known .shared-slice-known .given i .fits) middleFrom 16 (omega arith) in
+    let most = part-most l (λ i. known .shared-slice-known .given i .fits) middle 16 (omega arith) in
     minor-bad l (λ e. let r = of-right (c .before) e in let m = c .before .sum2 .ensures in absurd (omega arith))
 
 slice-aggregate-sum : tie.Need-slice-aggregate-sum
-slice-aggregate-sum c = sym (length-take-le 1 (bytes (c .before .before)) (omega arith))
+slice-aggregate-sum c = sym (length-take-le middle (bytes (c .before .before .before)) (omega arith))
 
--- where the middle span is taken off too, and the others are summed: the first two sums are known
-abbrev two-known : tie.After-wrapping-sub-u162 → tie.After-sum2
-two-known c = c .before .before .before .before .before .before .before
-
--- what the others sum to
-first-is : (c : tie.After-wrapping-sub-u162) → c .before .wrapping-add-u16 .result ≡ sumOf (take middleFrom (bytes (two-known c)))
-first-is c =
-    let at-add = c .before in
-    at-add .wrapping-add-u16 .ensures
-    ∙ ap₂ (λ (x y : ℕ). (x + y) % 2 ^ 16) (at-add .before .before .before .sum3 .ensures) (at-add .before .sum4 .ensures)
-    ∙ sum-span (bytes (two-known c)) 1 8
+-- where all are known
+abbrev first-two : tie.After-sum3 → tie.After-sum2
+first-two c = c .before .before .before .before
 
 returns-2 : tie.Need-returns-2
 returns-2 c =
-    let at-sub = c .before in
-    let q = two-known at-sub in
-    let only = rest-of-right (bytes q) middleFrom 16 _ _ _ (q .sum2 .ensures) (at-sub .wrapping-sub-u162 .ensures)
+    let at-sub = c .before .before .before in
+    let q = first-two (c .before) in
+    let only = rest-of-right (bytes q) middle 16 _ _ _ (q .sum2 .ensures) (at-sub .wrapping-sub-u162 .ensures)
     (at-sub .wrapping-sub-u162 .ok) in
-    minor-bad (bytes q) (λ e. c .if2 .taken (only (of-right q e) ∙ sym (first-is at-sub)))
+    minor-bad (bytes q) (λ e. c .if2 .taken (only (of-right q e) ∙ sym (c .before .sum3 .ensures)))
 
 returns-3 : tie.Need-returns-3
 returns-3 c =
-    let at-sub = c .before .before in
-    let q = two-known at-sub in
-    let rest = rest-right (bytes q) middleFrom 16 _ _ _ (q .sum2 .ensures) (at-sub .wrapping-sub-u162 .ensures)
-    (c .before .if2 .left ∙ first-is at-sub) in
+    let at-sum = c .before .before in
+    let q = first-two at-sum in
+    let rest = rest-right (bytes q) middle 16 _ _ _ (q .sum2 .ensures) (at-sum .before .before .wrapping-sub-u162 .ensures)
+    (c .before .if2 .left ∙ at-sum .sum3 .ensures) in
     c .reserved-zero .ensures ∙ minor-sum (bytes q) (right q rest)
 
 pub good-minor-spec : {M : Type 1} → statement M
@@ -88,5 +80,4 @@ good-minor-spec =
     tie.close
     (tie.spec (λ c κs. search needs) (λ c. search needs) (λ c. search needs) (λ c. search needs) (λ c κs. search needs)
     (λ c κs. search needs) (λ c. search needs) (λ c. search needs) (λ c. search needs) (λ c κs. search needs) returns
-    slice-aggregate-sum (λ c κs. search needs) (λ c. search needs) (λ c. search needs) (λ c. search needs) (λ c κs. search needs)
-    (λ c κs. search needs) (λ c κs. search needs) returns-2 (λ c κs. search needs) returns-3)
+    (λ c κs. search needs) slice-aggregate-sum (λ c κs. search needs) returns-2 (λ c κs. search needs) returns-3)
