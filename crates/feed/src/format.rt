@@ -45,6 +45,19 @@ pub enum Look {
     Settles(Kind),
 }
 
+// A record's sum is taken by spans: the compiler adds 8, 16, 32 or 64 bytes by a few wide instructions, as long as it does not join them
+// with others. So the last span is taken off what the record says its sum is, and a branch or a loop parts the spans before it.
+const SPAN: usize = 32;
+
+const LONG_SPAN: usize = 2 * SPAN;
+
+// Where the last span begins; and in a minor record the one before it, which is half as long.
+const MINOR_LAST: usize = MINOR_SUMMED - SPAN;
+
+const MINOR_MIDDLE: usize = MINOR_LAST - SPAN / 2;
+
+const MAJOR_LAST: usize = MAJOR_SUMMED - SPAN;
+
 // What this second byte makes of a mark.
 pub(crate) fn mark_of(b: u8) -> Mark
     ensures { λ r. ⌜ r ≡ markOf b ⌝ }
@@ -91,6 +104,19 @@ pub fn sum(s: &[u8]) -> u16
     t
 }
 
+// The same, by long spans.
+fn sum_by_spans(s: &[u8]) -> u16
+    ensures { λ r. ⌜ r ≡ sumOf (now (s .entry)) ⌝ }
+{
+    let mut t: u16 = 0;
+    let mut at: usize = 0;
+    while LONG_SPAN <= s.len() - at {
+        t = std::num::wrapping_add_u16(t, sum(&s[at..at + LONG_SPAN]));
+        at += LONG_SPAN;
+    }
+    std::num::wrapping_add_u16(t, sum(&s[at..]))
+}
+
 // Are the reserved bits of the path byte zero?
 fn reserved_zero(s: &[u8]) -> bool
     requires { ⌜ minorLength ≤ length (now s) ⌝ }
@@ -126,7 +152,16 @@ pub(crate) fn good_minor(s: &[u8]) -> bool
     requires { ⌜ minorLength ≤ length (now s) ⌝ }
     ensures { λ r. ⌜ r ≡ goodMinor (now (s .entry)) ⌝ }
 {
-    if two_at(s, MINOR_SUMMED) != sum(&s[..MINOR_SUMMED]) {
+    let rest = std::num::wrapping_sub_u16(
+        two_at(s, MINOR_SUMMED),
+        sum(&s[MINOR_LAST..MINOR_SUMMED]),
+    );
+    let middle = sum(&s[MINOR_MIDDLE..MINOR_LAST]);
+    // The sum of the bytes before the last span does not wrap: it is no less than that of the middle one.
+    if rest < middle {
+        return false;
+    }
+    if std::num::wrapping_sub_u16(rest, middle) != sum(&s[..MINOR_MIDDLE]) {
         return false;
     }
     reserved_zero(s)
@@ -141,7 +176,11 @@ pub(crate) fn good_major(s: &[u8]) -> bool
     if !reserved_zero(s) {
         return false;
     }
-    if two_at(s, MAJOR_SUMMED) != sum(&s[..MAJOR_SUMMED]) {
+    let rest = std::num::wrapping_sub_u16(
+        two_at(s, MAJOR_SUMMED),
+        sum(&s[MAJOR_LAST..MAJOR_SUMMED]),
+    );
+    if rest != sum_by_spans(&s[..MAJOR_LAST]) {
         return false;
     }
     quantities_right(s)
