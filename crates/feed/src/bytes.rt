@@ -18,12 +18,20 @@ pub(crate) fn wide32(x: u8) -> u32
     x as u32
 }
 
+// The two bytes from `i` on as a number whose low byte is the first.
+pub(crate) fn low_two_at(s: &[u8], i: usize) -> u16
+    requires { ⌜ i + 1 < length (now s) ⌝ }
+    ensures { λ r. ⌜ (r % 256 ≡ getD (now (s .entry)) i 0) × (r / 256 ≡ getD (now (s .entry)) (i + 1) 0) × (r < 65536) ⌝ }
+{
+    wide16(s[i + 1]) * 256 + wide16(s[i])
+}
+
 // The number in the two bytes from `i` on.
 pub(crate) fn two_at(s: &[u8], i: usize) -> u16
     requires { ⌜ i + 1 < length (now s) ⌝ }
     ensures { λ r. ⌜ r ≡ two (now (s .entry)) i ⌝ }
 {
-    turned16(wide16(s[i + 1]) * 256 + wide16(s[i]))
+    turned16(low_two_at(s, i))
 }
 
 // The number in the four bytes from `i` on.

@@ -1,16 +1,17 @@
 // The step: from a hall and the bytes of one record to the answer and the next hall.
 ghost use mathlib.Core.Path.{_≡_};
 ghost use mathlib.Core.Bool.{true};
-ghost use Prim.Native.Nat.{_+_, _≤_, _<_};
+ghost use Prim.Native.Nat.{_+_, _*_, _≤_, _<_};
 ghost use lib.ListN.{length};
 ghost use Rattle.bits.specs.Bit.{any};
 ghost use Rattle.cycle.specs.Size.{stringCount};
 ghost use Rattle.cycle.specs.Hall.{recordBothWays};
 ghost use Rattle.cycle.specs.Calm.{someLeak, quietMajor};
-ghost use Rattle.feed.specs.Size.{temperaturesLength, majorLength};
+ghost use Rattle.feed.specs.Size.{temperatureLength, temperaturesLength, majorLength};
 ghost use Rattle.feed.specs.Values.{temperaturesAt, majorOf, valuesOf};
-ghost use Rattle.feed.specs.Inside.Calm.{someCold, leakAt, noneFound};
+ghost use Rattle.feed.specs.Inside.Calm.{coldAmong, someCold, allMapped, leakAt, noneFound};
 ghost use Rattle.feed.specs.Step.{isWhole, stepOf};
+use crate::bytes::low_two_at;
 use crate::bytes::two_at;
 use crate::format::Look;
 use crate::format::length_of;
@@ -37,7 +38,6 @@ use cycle::answer::Answer;
 use cycle::calm::finds_none;
 use cycle::hall::Hall;
 use cycle::hall::Stepped;
-use cycle::leak::cold;
 use cycle::leak::leak_word;
 use cycle::map::Masks;
 use cycle::map::mapped_words;
@@ -45,6 +45,8 @@ use cycle::number::Verdict;
 use cycle::number::judged;
 use cycle::requests::both_ways;
 use cycle::size::ALL_JETS;
+use cycle::size::BELOW_ZERO_FROM;
+use cycle::size::LEAK_MOST;
 use cycle::size::STRINGS;
 use cycle::size::TEMPERATURES;
 use cycle::string::OnSlots;
@@ -97,18 +99,31 @@ fn record_both_ways(masks: [Masks; STRINGS], s: &[u8]) -> bool
     both_ways(masks, requests_of(s))
 }
 
-// Is one of the temperature words from `i` on, a string's, at most 63 as a signed number?
+// Is one of the `n` temperature words from `i` on at most 63 as a signed number? No word is turned: it is below zero if its first byte is
+// 128 or more, and small if that is 0 and its second at most 63. The two are gathered apart: so the compiler takes eight words at a time,
+// and looks at all their signs at once.
+fn cold_among(s: &[u8], i: usize, n: usize) -> bool
+    requires { ⌜ i + temperatureLength * n ≤ length (now s) ⌝ }
+    ensures { λ r. ⌜ r ≡ coldAmong n (now (s .entry)) i ⌝ }
+{
+    let mut small = false;
+    let mut below_zero = false;
+    let mut k: usize = 0;
+    while k < n {
+        let w = low_two_at(s, i + TEMPERATURE_LENGTH * k);
+        small = small | ((w % 256 == 0) & (w / 256 <= LEAK_MOST));
+        below_zero = below_zero | (BELOW_ZERO_FROM / 256 <= w % 256);
+        k += 1;
+    }
+    small | below_zero
+}
+
+// Is one of a string's, which begin at `i`?
 fn some_cold(s: &[u8], i: usize) -> bool
     requires { ⌜ i + temperaturesLength ≤ length (now s) ⌝ }
     ensures { λ r. ⌜ r ≡ someCold (now (s .entry)) i ⌝ }
 {
-    let mut found = false;
-    let mut k: usize = 0;
-    while k < TEMPERATURES {
-        found = found | cold(two_at(s, i + TEMPERATURE_LENGTH * k));
-        k += 1;
-    }
-    found
+    cold_among(s, i, TEMPERATURES)
 }
 
 // Does a mapped jet of the string whose temperatures begin at `i` leak? Where all are mapped, no jet has to be told from the next.
@@ -123,11 +138,24 @@ fn some_leak(mapped: u32, s: &[u8], i: usize) -> bool
     }
 }
 
-// Does one of any string?
+// Are all jets of all strings mapped?
+fn all_mapped(mapped: [u32; STRINGS]) -> bool
+    ensures { λ r. ⌜ r ≡ allMapped mapped ⌝ }
+{
+    (mapped[0] == ALL_JETS)
+        & (mapped[1] == ALL_JETS)
+        & (mapped[2] == ALL_JETS)
+        & (mapped[3] == ALL_JETS)
+}
+
+// Does one of any string? Where all jets are mapped, no string has to be told from the next either.
 pub(crate) fn some_leaks(mapped: [u32; STRINGS], s: &[u8]) -> bool
     requires { ⌜ majorLength ≤ length (now s) ⌝ }
     ensures { λ r. ⌜ r ≡ any stringCount (leakAt (now (s .entry)) mapped) ⌝ }
 {
+    if all_mapped(mapped) {
+        return cold_among(s, TEMPERATURES_FROM, STRINGS * TEMPERATURES);
+    }
     let mut found = false;
     let mut k: usize = 0;
     while k < STRINGS {

@@ -6,7 +6,7 @@ use Prim.Native.Nat.{ℕ, _+_, _-_, _*_, _/_, _%_, _^_, _<_}
 use lib.Dec.{eqb, ltb}
 use lib.ListN.{length, getD, take, drop, replicate}
 use Rattle.bits.specs.Bit.{wordBits, any, every}
-use Rattle.cycle.specs.Size.{stringCount, majorEvery, lastCount}
+use Rattle.cycle.specs.Size.{stringCount, jetCount, majorEvery, lastCount}
 use Rattle.cycle.specs.Each.{each}
 use Rattle.cycle.specs.Answers.{isTaken}
 use Rattle.cycle.specs.Leak.{cold}
@@ -83,9 +83,16 @@ toldAgain n out =
 
 -- ---- major records, by their bytes
 
--- one of a string's temperature words, which begin at place i, is cold
-unfoldable pub someCold : List ℕ → ℕ → Bool
-someCold l i = any temperatureCount (λ k. cold (two l (i + temperatureLength * k)))
+-- one of the n temperature words from place i on is cold; and one of a string's, which begin there
+unfoldable pub coldAmong : ℕ → List ℕ → ℕ → Bool
+coldAmong n l i = any n (λ k. cold (two l (i + temperatureLength * k)))
+
+abbrev pub someCold : List ℕ → ℕ → Bool
+someCold l i = coldAmong temperatureCount l i
+
+-- all jets of all strings are mapped
+unfoldable pub allMapped : List ℕ → Bool
+allMapped jets = every stringCount (λ s. eqb (getD jets s 0) (2 ^ jetCount - 1))
 
 -- a mapped jet of string s leaks
 abbrev pub leakAt : List ℕ → List ℕ → ℕ → Bool
