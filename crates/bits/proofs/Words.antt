@@ -8,7 +8,7 @@ use native.Mathlib.Decide.{decLt}
 use native.Mathlib.Omega.{arith}
 use lib.Dec.{eqb}
 use lib.Pow.{pow-pos, pow-lt}
-use lib.Bits.{bitAnd, or-lt, and-le-l}
+use lib.Bits.{bitAnd, bitOr, or-lt, and-le-l}
 use borrow.Author.Tests.{eq-eqb, ne-eqb, lt-ltb}
 use Rattle.bits.specs.Bit.{wordBits, bit, meets, plusBit, withBit, pack, any}
 use Rattle.bits.proofs.Yes.{not-both, and-left, and-right, and-both, and-true, and-false, or-false, or-cases, or-left, or-right}
@@ -124,6 +124,25 @@ meets-at a b j p q =
     by : Dec (j < a) → j < a
     by (yes l) = l
     by (no f) = not-both (bit j a) p (bit-past a j a (below-power a) (omega arith))
+
+-- a word joined from two shares a bit with another where one of the two does
+pub meets-or : (a b m : ℕ) → meets (bitOr a b) m ≡ (meets a m || meets b m)
+meets-or a b m =
+    same-yes (meets (bitOr a b) m) (meets a m || meets b m)
+    (λ e.
+    let x = meets-found (bitOr a b) m e in
+    ⊎-elim (λ (p : bit (x .0) a ≡ true). or-left (meets a m) (meets b m) (meets-at a m (x .0) p (x .2)))
+    (λ (p : bit (x .0) b ≡ true). or-right (meets a m) (meets b m) (meets-at b m (x .0) p (x .2)))
+    (or-cases (bit (x .0) a) (bit (x .0) b) (sym (bit-or (x .0) a b) ∙ x .1)))
+    (λ e.
+    ⊎-elim
+    (λ (p : meets a m ≡ true).
+    let x = meets-found a m p in
+    meets-at (bitOr a b) m (x .0) (bit-or (x .0) a b ∙ or-left (bit (x .0) a) (bit (x .0) b) (x .1)) (x .2))
+    (λ (p : meets b m ≡ true).
+    let x = meets-found b m p in
+    meets-at (bitOr a b) m (x .0) (bit-or (x .0) a b ∙ or-right (bit (x .0) a) (bit (x .0) b) (x .1)) (x .2))
+    (or-cases (meets a m) (meets b m) e))
 
 -- packing goes on by `with_bit`
 pub pack-next : (n w : ℕ) (f : ℕ → Bool) (b : Bool) → n < wordBits → w ≡ pack n f → b ≡ f n → withBit w n b ≡ pack (suc n) f

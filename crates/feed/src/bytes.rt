@@ -34,12 +34,21 @@ pub(crate) fn two_at(s: &[u8], i: usize) -> u16
     turned16(low_two_at(s, i))
 }
 
+// The two numbers of two bytes each from `i` on, as one number: the first is its high half.
+pub(crate) fn pair_at(s: &[u8], i: usize) -> u32
+    requires { ⌜ i + 3 < length (now s) ⌝ }
+    ensures { λ r. ⌜ (r / 65536 ≡ two (now (s .entry)) i) × (r < 4294967296) ⌝ }
+    ensures { λ r. ⌜ r % 65536 ≡ getD (now (s .entry)) (i + 2) 0 * 256 + getD (now (s .entry)) (i + 3) 0 ⌝ }
+{
+    wide32(s[i]) * 16777216 + wide32(s[i + 1]) * 65536 + wide32(s[i + 2]) * 256 + wide32(s[i + 3])
+}
+
 // The number in the four bytes from `i` on.
 pub(crate) fn four_at(s: &[u8], i: usize) -> u32
     requires { ⌜ i + 3 < length (now s) ⌝ }
     ensures { λ r. ⌜ r ≡ four (now (s .entry)) i ⌝ }
 {
-    wide32(s[i]) * 16777216 + wide32(s[i + 1]) * 65536 + wide32(s[i + 2]) * 256 + wide32(s[i + 3])
+    pair_at(s, i)
 }
 
 // The byte `k` places behind `i`; past the end it is 0.

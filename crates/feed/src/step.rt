@@ -12,6 +12,7 @@ ghost use Rattle.feed.specs.Values.{temperaturesAt, majorOf, valuesOf};
 ghost use Rattle.feed.specs.Inside.Calm.{coldAmong, someCold, allMapped, leakAt, noneFound};
 ghost use Rattle.feed.specs.Step.{isWhole, stepOf};
 use crate::bytes::low_two_at;
+use crate::bytes::pair_at;
 use crate::bytes::two_at;
 use crate::format::Look;
 use crate::format::length_of;
@@ -33,12 +34,10 @@ use crate::values::quantities_of;
 use crate::values::requests_at;
 use crate::values::requests_of;
 use crate::values::sample_at;
-use crate::values::temperatures_at;
 use cycle::answer::Answer;
 use cycle::calm::finds_none;
 use cycle::hall::Hall;
 use cycle::hall::Stepped;
-use cycle::leak::leak_word;
 use cycle::map::Masks;
 use cycle::map::mapped_words;
 use cycle::number::Verdict;
@@ -126,6 +125,31 @@ fn some_cold(s: &[u8], i: usize) -> bool
     cold_among(s, i, TEMPERATURES)
 }
 
+// Both temperature words of a jet as one, fuel high: the sign bits of the two, and in each the least that is no leak.
+const SIGNS: u32 = 65537 * (BELOW_ZERO_FROM as u32);
+
+const LEAST_WARM: u32 = 65537 * (LEAK_MOST as u32 + 1);
+
+// Does one of these jets leak, of the string whose temperatures begin at `i`? One after the other is visited, lowest first, and no other.
+// Both words of a jet are told at once: one below zero has its sign bit, and a small one gets it when the least warm is taken away. (A small
+// oxidizer word then borrows from the fuel word, but the jet leaks anyway.)
+fn leak_among(jets: u32, s: &[u8], i: usize) -> bool
+    requires { ⌜ i + temperaturesLength ≤ length (now s) ⌝ }
+    ensures { λ r. ⌜ r ≡ someLeak jets (temperaturesAt (now (s .entry)) i) ⌝ }
+{
+    let mut below_zero: u32 = 0;
+    let mut small: u32 = 0;
+    let mut rest = jets;
+    while rest != 0 {
+        let j = u32::trailing_zeros(rest) as usize;
+        let w = pair_at(s, i + 2 * TEMPERATURE_LENGTH * j);
+        below_zero = below_zero | w;
+        small = small | std::num::wrapping_sub_u32(w, LEAST_WARM);
+        rest = rest & (rest - 1);
+    }
+    bits::meets(below_zero | small, SIGNS)
+}
+
 // Does a mapped jet of the string whose temperatures begin at `i` leak? Where all are mapped, no jet has to be told from the next.
 fn some_leak(mapped: u32, s: &[u8], i: usize) -> bool
     requires { ⌜ i + temperaturesLength ≤ length (now s) ⌝ }
@@ -134,7 +158,7 @@ fn some_leak(mapped: u32, s: &[u8], i: usize) -> bool
     if mapped == ALL_JETS {
         some_cold(s, i)
     } else {
-        leak_word(mapped, temperatures_at(s, i)) != 0
+        leak_among(mapped, s, i)
     }
 }
 

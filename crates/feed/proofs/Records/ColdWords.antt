@@ -1,22 +1,26 @@
 -- Temperatures by their bytes: what a cold word's two bytes are; where all jets of a string, or of all strings, are mapped, one leaks if a
--- word is cold; and steps 5 to 8 of a major record find nothing by its values if they find nothing by its bytes. Assumes nothing.
+-- word is cold; where not, a walk over the mapped jets tells it, both words of a jet at once; and steps 5 to 8 of a major record find
+-- nothing by its values if they find nothing by its bytes. Assumes nothing.
 use mathlib.Core.Path.{_≡_, refl, sym, ap, ap₂, _∙_}
 use mathlib.Core.Bool.{Bool, true, false, not, _&&_, _||_}
 use mathlib.Core.List.{List}
-use mathlib.Core.Logic.{_⊎_, inl, inr, _↔_}
-use Prim.Native.Nat.{ℕ, zero, suc, _+_, _-_, _*_, _/_, _%_, _^_, _<_}
+use mathlib.Core.Logic.{_⊎_, inl, inr, ⊎-elim, _↔_}
+use Prim.Native.Nat.{ℕ, zero, suc, _+_, _-_, _*_, _/_, _%_, _^_, _<_, _≤_}
 use native.Mathlib.Nat.{mul-zero, mul-suc}
 use native.Mathlib.Omega.{arith}
 use borrow.Author.Tests.{eq-eqb, eqb-true, le-leb, leb-true}
-use lib.Bits.{bitAnd}
+use lib.Bits.{bitAnd, bitOr, and-zero-l}
+use lib.Count.{trailingZeros}
 use lib.Dec.{eqb, leb}
 use lib.ListN.{getD}
-use Rattle.bits.specs.Bit.{bit, any, every}
+use Rattle.bits.specs.Bit.{wordBits, bit, meets, any, every}
+use Rattle.bits.proofs.Bits.{bit-or, bit-one}
 use Rattle.bits.proofs.Every.{every-at, every-same}
-use Rattle.bits.proofs.Words.{any-same, some-bit, pack-lt}
-use Rattle.bits.proofs.Yes.{and-left, and-right, and-both, or-cases, or-left, or-right, or-false, same-yes}
+use Rattle.bits.proofs.Lowest.{lowest-set, meets-by-lowest}
+use Rattle.bits.proofs.Words.{any-same, some-bit, pack-lt, meets-found, meets-at, meets-or}
+use Rattle.bits.proofs.Yes.{and-left, and-right, and-both, or-cases, or-left, or-right, or-false, or-neither, same-yes}
 use Rattle.cycle.specs.Size.{stringCount, manifoldCount, jetCount}
-use Rattle.cycle.specs.Leak.{cold, ColdWord}
+use Rattle.cycle.specs.Leak.{cold, leaks, ColdWord, WarmWord}
 use Rattle.cycle.specs.Map.{masksOf, mapped}
 use Rattle.cycle.specs.Words.{jetLeaks, leakWord}
 use Rattle.cycle.specs.Hall.{noSample, noTemperatures, noRequests, stringOf}
@@ -25,7 +29,7 @@ use Rattle.cycle.specs.declared.hall.Hall.{Hall}
 use Rattle.cycle.specs.declared.values.Temperatures.{Temperatures}
 use Rattle.cycle.specs.declared.values.Requests.{Requests}
 use Rattle.cycle.specs.declared.values.Sample.{Sample}
-use Rattle.cycle.proofs.Leaks.{cold-exactly}
+use Rattle.cycle.proofs.Leaks.{cold-exactly, warm-exactly}
 use Rattle.cycle.proofs.MappedLeaks.{leak-at, all-mapped}
 use Rattle.cycle.proofs.CalmHalls.{mapped-at}
 use Rattle.feed.specs.Size.{temperatureLength, temperatureCount, temperaturesFrom, temperaturesLength, samplesFrom, sampleLength}
@@ -101,18 +105,149 @@ any-by-parts m (suc n) g =
     ∙ any-plus (m * n) m g
     ∙ ap (λ (b : Bool). b || any m (λ k. g (m * n + k))) (any-by-parts m n g)
 
+word-at : (l : List ℕ) (i k : ℕ) → k < temperatureCount → getD (temperaturesAt l i .words) k 0 ≡ two l (i + temperatureLength * k)
+unfolding wordsAt
+word-at l i k b = table-at (λ k. two l (i + temperatureLength * k)) 0 temperatureCount k b
+
 pub cold-leaks : (l : List ℕ) (i : ℕ) → someCold l i ≡ someLeak (2 ^ jetCount - 1) (temperaturesAt l i)
-unfolding any coldAmong leakWord wordsAt
+unfolding any coldAmong leakWord
 cold-leaks l i =
     let t : Temperatures = temperaturesAt l i in
-    let at : (k : ℕ) → k < temperatureCount → getD (t .words) k 0 ≡ two l (i + temperatureLength * k) =
-    λ k b. table-at (λ k. two l (i + temperatureLength * k)) 0 temperatureCount k b in
     sym
     (ap (λ (w : ℕ). not (eqb w 0)) (all-mapped t)
     ∙ some-bit jetCount (leakWord t) (pack-lt jetCount (jetLeaks (t .words)))
     ∙ any-same jetCount _ _ (λ j b. leak-at t j b)
     ∙ sym (any-by-parts 2 jetCount (λ k. cold (getD (t .words) k 0)))
-    ∙ any-same temperatureCount _ _ (λ k b. ap cold (at k b)))
+    ∙ any-same temperatureCount _ _ (λ k b. ap cold (word-at l i k b)))
+
+-- ---- both words of a jet as one number w, fuel high, and d, which is w less 64 in both halves: where a sign bit is set in either, the jet
+-- leaks. (A borrow from the fuel half changes nothing: the oxidizer word is cold then.)
+
+abbrev pub signs : ℕ
+signs = 2147516416
+
+abbrev pub leastWarm : ℕ
+leastWarm = 4194368
+
+sign-at : (j : ℕ) → bit j signs ≡ (eqb j 31 || eqb j 15)
+sign-at j =
+    let both : signs ≡ bitOr (2 ^ 31) (2 ^ 15) = refl in
+    ap (bit j) both ∙ bit-or j (2 ^ 31) (2 ^ 15) ∙ ap₂ (λ (x y : Bool). x || y) (bit-one j 31) (bit-one j 15)
+
+sign-bits : (v : ℕ) → meets v signs ≡ (bit 31 v || bit 15 v)
+sign-bits v =
+    same-yes (meets v signs) (bit 31 v || bit 15 v)
+    (λ e.
+    let x = meets-found v signs e in
+    ⊎-elim (λ (p : eqb (x .0) 31 ≡ true). or-left (bit 31 v) (bit 15 v) (ap (λ (i : ℕ). bit i v) (sym (eqb-true (x .0) 31 p)) ∙ x .1))
+    (λ (p : eqb (x .0) 15 ≡ true). or-right (bit 31 v) (bit 15 v) (ap (λ (i : ℕ). bit i v) (sym (eqb-true (x .0) 15 p)) ∙ x .1))
+    (or-cases (eqb (x .0) 31) (eqb (x .0) 15) (sym (sign-at (x .0)) ∙ x .2)))
+    (λ e.
+    ⊎-elim (λ (p : bit 31 v ≡ true). meets-at v signs 31 p (sign-at 31)) (λ (p : bit 15 v ≡ true). meets-at v signs 15 p (sign-at 15))
+    (or-cases (bit 31 v) (bit 15 v) e))
+
+high-sign : (v : ℕ) → 2147483648 ≤ v → v < 4294967296 → meets v signs ≡ true
+unfolding bit
+high-sign v l h =
+    let one : v / 2147483648 ≡ 1 = omega arith in
+    sign-bits v ∙ or-left (bit 31 v) (bit 15 v) (ap (λ (n : ℕ). eqb (n % 2) 1) one)
+
+low-sign : (v : ℕ) → v / 32768 % 2 ≡ 1 → meets v signs ≡ true
+unfolding bit
+low-sign v e = sign-bits v ∙ or-right (bit 31 v) (bit 15 v) (eq-eqb (v / 32768 % 2) 1 e)
+
+no-sign : (v : ℕ) → v / 2147483648 % 2 ≡ 0 → v / 32768 % 2 ≡ 0 → meets v signs ≡ false
+unfolding bit
+no-sign v e f =
+    sign-bits v
+    ∙ or-neither (bit 31 v) (bit 15 v) (ap (λ (n : ℕ). eqb n 1) e) (ap (λ (n : ℕ). eqb n 1) f)
+
+pair-leaks : (w d : ℕ) → w < 4294967296 → d < 4294967296 → (d + leastWarm) % 4294967296 ≡ w
+    → (meets w signs || meets d signs) ≡ leaks (w / 65536) (w % 65536)
+pair-leaks w d h g e = by (cold (w / 65536)) (cold (w % 65536)) refl refl
+  where
+    found : (meets w signs ≡ true) ⊎ (meets d signs ≡ true) → (meets w signs || meets d signs) ≡ true
+    found (inl p) = or-left (meets w signs) (meets d signs) p
+    found (inr p) = or-right (meets w signs) (meets d signs) p
+
+    by-first : ColdWord (w / 65536) → (meets w signs ≡ true) ⊎ (meets d signs ≡ true)
+    by-first (inl s) =
+        let less : w < leastWarm = omega (arith, s) in
+        inr (high-sign d (omega (arith, less, g, e)) g)
+    by-first (inr b) = inl (high-sign w (omega (arith, b .0)) h)
+
+    by-second : ColdWord (w % 65536) → (meets w signs ≡ true) ⊎ (meets d signs ≡ true)
+    by-second (inl s) = inr (low-sign d (omega (arith, s, h, g, e)))
+    by-second (inr b) = inl (low-sign w (omega (arith, b .0, h)))
+
+    by : (a b : Bool) → cold (w / 65536) ≡ a → cold (w % 65536) ≡ b → (meets w signs || meets d signs) ≡ leaks (w / 65536) (w % 65536)
+    by true b p q =
+        found (by-first (cold-exactly (w / 65536) (omega (arith, h)) .0 p)) ∙ sym (or-left (cold (w / 65536)) (cold (w % 65536)) p)
+    by false true p q =
+        found (by-second (cold-exactly (w % 65536) (omega arith) .0 q)) ∙ sym (or-right (cold (w / 65536)) (cold (w % 65536)) q)
+    by false false p q =
+        let f : WarmWord (w / 65536) = warm-exactly (w / 65536) (omega (arith, h)) .0 p in
+        let o : WarmWord (w % 65536) = warm-exactly (w % 65536) (omega arith) .0 q in
+        or-neither (meets w signs) (meets d signs)
+        (no-sign w (omega (arith, f .1, h)) (omega (arith, o .1)))
+        (no-sign d (omega (arith, f .0, f .1, o .0, o .1, h, g, e)) (omega (arith, f .0, f .1, o .0, o .1, h, g, e)))
+        ∙ sym (or-neither (cold (w / 65536)) (cold (w % 65536)) p q)
+
+-- ---- a walk over the mapped jets: `words` and `less` have gathered what both are, the jets of `rest` are still to be visited
+
+abbrev pub Walked : List ℕ → ℕ → ℕ → ℕ → ℕ → ℕ → Type 0
+Walked l i jets words less rest =
+    ((meets words signs || meets less signs) || someLeak rest (temperaturesAt l i)) ≡ someLeak jets (temperaturesAt l i)
+
+pub walk-begins : (l : List ℕ) (i jets : ℕ) → Walked l i jets 0 0 jets
+unfolding meets
+walk-begins l i jets = refl
+
+jet-at : (l : List ℕ) (i j : ℕ) → j < jetCount
+    → bit j (leakWord (temperaturesAt l i)) ≡ leaks (two l (i + 4 * j)) (getD l (i + 4 * j + 2) 0 * 256 + getD l (i + 4 * j + 3) 0)
+jet-at l i j b =
+    let t : Temperatures = temperaturesAt l i in
+    let first : i + temperatureLength * (2 * j) ≡ i + 4 * j = omega arith in
+    let second : i + temperatureLength * (2 * j + 1) ≡ i + 4 * j + 2 = omega arith in
+    let last : i + 4 * j + 2 + 1 ≡ i + 4 * j + 3 = omega arith in
+    leak-at t j b
+    ∙ ap₂ leaks (word-at l i (2 * j) (omega arith) ∙ ap (two l) first)
+    (word-at l i (2 * j + 1) (omega arith)
+    ∙ ap (two l) second
+    ∙ ap (λ (p : ℕ). getD l (i + 4 * j + 2) 0 * 256 + getD l p 0) last)
+
+-- the lowest jet that is left is visited
+pub walk-turn : (l : List ℕ) (i jets words less rest w d : ℕ) → 0 < rest → rest < 2 ^ wordBits → w < 4294967296 → d < 4294967296
+    → (d + leastWarm) % 4294967296 ≡ w
+    → (let p = i + 4 * trailingZeros wordBits rest in
+    (w / 65536 ≡ two l p) × (w % 65536 ≡ getD l (p + 2) 0 * 256 + getD l (p + 3) 0))
+    → Walked l i jets words less rest → Walked l i jets (bitOr words w) (bitOr less d) (bitAnd rest (rest - 1))
+unfolding meets
+walk-turn l i jets words less rest w d some h v g e halves walked =
+    let leaking : ℕ = leakWord (temperaturesAt l i) in
+    let j : ℕ = trailingZeros wordBits rest in
+    let next : ℕ = bitAnd rest (rest - 1) in
+    let before : Bool = meets words signs || meets less signs in
+    let now : (meets w signs || meets d signs) ≡ bit j leaking =
+    pair-leaks w d v g e ∙ ap₂ leaks (halves .0) (halves .1) ∙ sym (jet-at l i j (lowest-set wordBits rest some h .0)) in
+    ap (λ (b : Bool). b || meets next leaking)
+    (ap₂ (λ (x y : Bool). x || y) (meets-or words w signs) (meets-or less d signs)
+    ∙ or-swap (meets words signs) (meets less signs) (meets w signs) (meets d signs)
+    ∙ ap (λ (b : Bool). before || b) now)
+    ∙ or-assoc before (bit j leaking) (meets next leaking)
+    ∙ ap (λ (b : Bool). before || b) (sym (meets-by-lowest wordBits rest leaking some h))
+    ∙ walked
+
+pub walk-ends : (l : List ℕ) (i jets words less : ℕ) {rest : ℕ} → rest ≡ 0 → Walked l i jets words less rest
+    → meets (bitOr words less) signs ≡ someLeak jets (temperaturesAt l i)
+walk-ends l i jets words less {rest} e walked =
+    let leaking : ℕ = leakWord (temperaturesAt l i) in
+    let none : someLeak rest (temperaturesAt l i) ≡ false =
+    ap (λ (r : ℕ). not (eqb (bitAnd r leaking) 0)) e ∙ ap (λ (r : ℕ). not (eqb r 0)) (and-zero-l leaking) in
+    meets-or words less signs
+    ∙ sym (or-false (meets words signs || meets less signs))
+    ∙ ap (λ (b : Bool). (meets words signs || meets less signs) || b) (sym none)
+    ∙ walked
 
 -- ---- all strings
 
