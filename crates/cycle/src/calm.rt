@@ -31,18 +31,19 @@ impl StringState {
     }
 }
 
-// Is nothing under way in any string?
+// Is nothing under way in any string? The first one where something is ends it: in a lively hall that is soon.
 pub fn all_calm(strings: [StringState; STRINGS]) -> bool
     ensures { λ r. ⌜ r ≡ allCalm stringCount strings ⌝ }
 {
-    let mut found = true;
     let mut s: usize = 0;
     while s < STRINGS {
         let string = strings[s];
-        found = found & string.is_calm();
+        if !string.is_calm() {
+            return false;
+        }
         s += 1;
     }
-    found
+    true
 }
 
 // Do steps 5 to 8 find nothing in one string but what its temperatures say, where these jets are mapped?
