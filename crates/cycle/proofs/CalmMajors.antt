@@ -1,11 +1,10 @@
 -- Where steps 5 to 8 find nothing, all that they leave is the good copy; and a major record of the next cycle that finds nothing in any
 -- step, in a hall in which nothing is under way, is taken, and leaves no more than that, the number and the banks. Assumes nothing.
 use mathlib.Core.Path.{_≡_, refl, sym, ap, ap₂, _∙_}
-use mathlib.Core.Bool.{Bool, true, false, not, _&&_}
+use mathlib.Core.Bool.{Bool, true, false, not}
 use mathlib.Core.List.{List}
-use Prim.Native.Nat.{ℕ, zero, suc, _+_, _<_}
-use native.Mathlib.Omega.{arith}
-use lib.Bits.{bitAnd, bitOr, bitXor, and-zero-l, and-zero-r, or-zero-r, xor-zero-l, xor-zero-r}
+use Prim.Native.Nat.{ℕ, zero, suc, _+_}
+use lib.Bits.{bitAnd, bitOr, bitXor, and-zero-l, and-zero-r, or-zero-r, xor-zero-r}
 use lib.Dec.{eqb}
 use borrow.Author.Tests.{eqb-true}
 use lib.ListN.{getD}
@@ -15,10 +14,9 @@ use Rattle.bits.proofs.Bits.{bit-none}
 use Rattle.bits.proofs.Every.{every-at, every-same}
 use Rattle.bits.proofs.Words.{any-at, any-none}
 use Rattle.cycle.specs.Size.{stringCount, manifoldCount, moduleCount}
-use Rattle.cycle.specs.Each.{each}
 use Rattle.cycle.specs.Map.{masksOf, mapped}
 use Rattle.cycle.specs.Banks.{weighedAll}
-use Rattle.cycle.specs.Words.{withClose, withOver, withFail, withOn, leakWord, badJets, badOf, behindClosed, closeBits, asksClose}
+use Rattle.cycle.specs.Words.{withClose, withOver, withFail, withOn, leakWord, badJets, badOf, behindClosed, closeBits}
 use Rattle.cycle.specs.Words.{requested, afterRequests, rechecked, onFailure, kept, majorSteps, majorCycle}
 use Rattle.cycle.specs.Hall.{noTemperatures, noRequests, pastString, sampleOf, stringOf, majorStrings, majorTaken}
 use Rattle.cycle.specs.Hall.{stringBothWays, bothWays, taken, unlessBothWays, verdictOn, steppedBy, stepped}
@@ -197,6 +195,7 @@ pub kept-fail : (strings : List StringState) (i : ℕ)
 unfolding kept
 kept-fail strings i = kept-alike (λ x. x .standing .fail) (λ x. refl) strings i
 
-pub kept-close : (strings : List StringState) (i : ℕ) → (getD (keptStrings strings) i pastString) .close ≡ (getD strings i pastString) .close
+pub kept-close : (strings : List StringState) (i : ℕ)
+    → (getD (keptStrings strings) i pastString) .close ≡ (getD strings i pastString) .close
 unfolding kept
 kept-close strings i = kept-alike (λ x. x .close) (λ x. refl) strings i

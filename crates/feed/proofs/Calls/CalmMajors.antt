@@ -21,16 +21,14 @@ use Rattle.cycle.specs.declared.answer.Answer.the-variants.{Taken}
 use Rattle.cycle.specs.declared.hall.Hall.{Hall}
 use Rattle.cycle.specs.declared.string.StringState.{StringState}
 use Rattle.cycle.specs.declared.values.Requests.{Requests}
-use Rattle.cycle.specs.declared.values.Sample.{Sample}
 use Rattle.cycle.proofs.CalmMajors.{major-passes}
 use Rattle.feed.specs.Size.{markByte, majorMark, majorLength, wireAt, pathAt, samplesFrom, sampleLength, reservedFrom}
 use Rattle.feed.specs.Size.{requestsFrom, requestsLength, dropsFrom, quantitiesFrom}
 use Rattle.feed.specs.Bytes.{two, four}
 use Rattle.feed.specs.Format.{sumOf, sumRight, reservedZero, quantitiesRight, goodMajor}
 use Rattle.feed.specs.Good.{WholeRecord}
-use Rattle.feed.specs.Report.{headOf, stringsBytes, stringBytes, banksBytes, reportOf}
 use Rattle.feed.specs.Values.{sampleAt, minorOf, requestsAt, quantitiesOf, majorOf, valuesOf}
-use Rattle.feed.specs.Inside.Calm.{leakAt, noneFoundIn, noneAsked, allStill, majorPasses, majorPassesAt, renumbered, rebanked}
+use Rattle.feed.specs.Inside.Calm.{leakAt, noneFoundIn, noneAsked, allStill, majorPasses, majorPassesAt}
 use Rattle.feed.proofs.Records.ColdWords.{quiet-told}
 use Rattle.feed.proofs.Records.GoodParts.{quantities-to}
 
@@ -42,7 +40,8 @@ module _ (l : List ℕ) (none : noneAsked l ≡ true) where
   zero-at p low high =
       let place : requestsFrom + (p - requestsFrom) ≡ p = omega arith in
       ap (λ (k : ℕ). getD l k 0) (sym place)
-      ∙ eqb-true (getD l (requestsFrom + (p - requestsFrom)) 0) 0 (every-at (quantitiesFrom - requestsFrom) _ none (p - requestsFrom) (omega arith))
+      ∙ eqb-true (getD l (requestsFrom + (p - requestsFrom)) 0) 0
+      (every-at (quantitiesFrom - requestsFrom) _ none (p - requestsFrom) (omega arith))
 
   no-word : (p : ℕ) → requestsFrom ≤ p → p + 3 < quantitiesFrom → four l p ≡ 0
   no-word p low high =

@@ -166,7 +166,8 @@ module _ (m : Monitor) (piece out₀ : List ℕ) (hall : Hall) (b jets mapped : 
           ∙ sym (drop-drop reportLength written out) in
           let all : o ≡ take reportLength (drop last out) ++ (reportOf Taken after ++ drop (reportLength + reportLength) (drop last out)) =
           e
-          ∙ ap (λ (l : List ℕ). take reportLength l ++ (reportOf Taken after ++ drop (reportLength + reportLength) l)) (rest-whole last out) in
+          ∙ ap (λ (l : List ℕ). take reportLength l ++ (reportOf Taken after ++ drop (reportLength + reportLength) l))
+          (rest-whole last out) in
           put-rest last out o last-within
           ∙ ap (λ (l : List ℕ). take last out ++ l) all
           ∙ sym (append-assoc (take last out) (take reportLength (drop last out)) _)

@@ -1,11 +1,11 @@
 -- Calm minor records one after the other, up to the next major cycle: what the run's inner loop keeps, so that no record is asked for its
 -- kind, its length or the room for its report. Assumes nothing.
-use mathlib.Core.Path.{_≡_, refl, sym, ap, _∙_}
+use mathlib.Core.Path.{_≡_, refl, sym, _∙_}
 use mathlib.Core.Bool.{Bool, true, false, cond}
 use mathlib.Core.List.{List}
 use Prim.Native.Nat.{ℕ, _+_, _-_, _*_, _/_, _%_, _≤_, _<_}
 use native.Mathlib.Omega.{arith}
-use borrow.Author.Tests.{eqb-false, ne-eqb, ltb-true, ltb-false}
+use borrow.Author.Tests.{ne-eqb, ltb-true, ltb-false}
 use borrow.Rule.Slice.PartMut.{putMid}
 use lib.Dec.{ltb}
 use lib.ListN.{length, take, drop}
@@ -71,10 +71,10 @@ module _ (n fed room : ℕ) where
   unfolding stretch
   stretch-fits h = by (ltb room outboxNeeded)
     where
-      by : (t : Bool)
-          → (minorLength * cond t 0 (least (minorsAhead n) (least (fed / minorLength) ((room - outboxNeeded) / reportLength))) ≤ fed)
-          × (reportLength * cond t 0 (least (minorsAhead n) (least (fed / minorLength) ((room - outboxNeeded) / reportLength))) + outboxNeeded
-          ≤ room)
+      most : Bool → ℕ
+      most t = cond t 0 (least (minorsAhead n) (least (fed / minorLength) ((room - outboxNeeded) / reportLength)))
+
+      by : (t : Bool) → (minorLength * most t ≤ fed) × (reportLength * most t + outboxNeeded ≤ room)
       by true = (omega arith, omega arith)
       by false =
           let inner = least-right (minorsAhead n) (least (fed / minorLength) ((room - outboxNeeded) / reportLength)) in

@@ -281,7 +281,8 @@ quiet-told l jets h e =
     (every-same stringCount _ _
     (λ s b.
     ap (λ (j : ℕ). noneFound l j ((stringOf h s) .on) ((stringOf h s) .close) s) (jet s b)
-    ∙ ap₂ (λ (x : Sample) (q : Requests). findsNone (mapped manifoldCount (masksOf (h .masks) s)) x q ((stringOf h s) .on) ((stringOf h s) .close))
+    ∙ ap₂ (λ (x : Sample) (q : Requests).
+    findsNone (mapped manifoldCount (masksOf (h .masks) s)) x q ((stringOf h s) .on) ((stringOf h s) .close))
     (sym (table-at (λ k. sampleAt l (samplesFrom + sampleLength * k)) noSample stringCount s b))
     (sym (table-at (λ k. requestsAt l (requestsFrom + requestsLength * k) (dropsFrom + k)) noRequests stringCount s b))))
     (any-same stringCount _ _

@@ -44,7 +44,8 @@ turnedWords words = each stringCount (λ s x. turned x) 0 words
 -- calm records can follow a taken one that left nothing in the store and nothing under way
 unfoldable pub calmAfter : Answer → ℕ → Hall → Calm
 calmAfter a count h =
-    cond (isTaken a && (eqb count 0 && allCalm stringCount (h .strings))) (record { yes = true; jets = mappedWords (h .masks); mapped = turnedWords (mappedWords (h .masks)) })
+    cond (isTaken a && (eqb count 0 && allCalm stringCount (h .strings)))
+    (record { yes = true; jets = mappedWords (h .masks); mapped = turnedWords (mappedWords (h .masks)) })
     (record { yes = false; jets = replicate stringCount 0; mapped = replicate stringCount 0 })
 
 -- the bytes are a good minor record of the next cycle that finds nothing

@@ -1,6 +1,6 @@
 -- `feed::calm::all_still` meets its contract. Assumes nothing.
 use borrow.Author.Needs.{needs}
-use mathlib.Core.Path.{_≡_, refl, sym, ap, ap₂, _∙_}
+use mathlib.Core.Path.{_≡_, refl, ap, ap₂, _∙_}
 use mathlib.Core.Bool.{Bool, _&&_}
 use Prim.Native.Nat.{ℕ, _≤_, _<_, _-_}
 use native.Mathlib.Nat.{not-suc-le-zero}
@@ -9,14 +9,11 @@ use native.Mathlib.Omega.{arith}
 use lib.Dec.{eqb}
 use lib.ListN.{getD}
 use Rattle.bits.specs.Bit.{every}
-use Rattle.bits.proofs.Every.{every-same}
 use Rattle.cycle.specs.Size.{stringCount}
 use Rattle.cycle.specs.Hall.{noRequests, pastString}
 use Rattle.cycle.specs.Calm.{quiet, findsNone}
-use Rattle.cycle.specs.declared.string.StringState.{StringState}
 use Rattle.cycle.specs.declared.values.Sample.{Sample}
-use Rattle.feed.specs.Size.{pathAt, samplesFrom, sampleLength}
-use Rattle.feed.specs.Values.{sampleAt}
+use Rattle.feed.specs.Size.{pathAt}
 use Rattle.feed.specs.Inside.Calm.{turnedSample}
 use Rattle.feed.proofs.Records.TurnedWords.{below-next}
 use Rattle.feed.proofs.Calls.Calms.{quietAt, WordsAt, all-quiet-told}

@@ -1,20 +1,20 @@
 -- `feed::calm::calm_major` meets its contract. Assumes nothing.
 use borrow.Author.Needs.{needs}
-use mathlib.Core.Path.{_≡_, refl, sym, ap, ap₂, _∙_}
+use mathlib.Core.Path.{_≡_, refl, sym, ap, _∙_}
 use mathlib.Core.Bool.{Bool, true, false}
 use mathlib.Core.List.{List, _++_, append-assoc}
 use Prim.Native.Nat.{ℕ, _+_, _-_, _<_}
 use native.Mathlib.Nat.{add-sub-cancel-left}
 use native.Mathlib.Omega.{arith}
-use lib.ListN.{length, take, drop}
+use lib.ListN.{take, drop}
 use lib.Seq.{length-take-le, take-take}
 use Rattle.bits.proofs.Yes.{not-true, not-no}
 use Rattle.cycle.specs.Size.{lastCount}
-use Rattle.cycle.specs.Calm.{keptAll, onward}
+use Rattle.cycle.specs.Calm.{keptAll}
 use Rattle.cycle.specs.declared.hall.Hall.{Hall}
 use Rattle.feed.specs.Size.{majorLength, reportLength}
 use Rattle.feed.specs.Values.{quantitiesOf}
-use Rattle.feed.specs.Inside.Calm.{majorPasses, majorPassesAt, keptAfter, renumbered, rebanked}
+use Rattle.feed.specs.Inside.Calm.{majorPassesAt, renumbered, rebanked}
 use Rattle.feed.proofs.Calls.CalmMajors.{major-below, major-short, major-part}
 use Rattle.feed.proofs.calm.calm_major.Statement.{statement}
 use Rattle.feed.proofs.calm.calm_major.Tie as tie
@@ -83,7 +83,10 @@ returns-3 c =
     let banks = k .kept-all .result .banks in
     let n = k .kept-all .result .n + 1 in
     rw pass (
-      ap (λ (h : Hall). record { yes = true; hall = record { n = h .n + 1; masks = h .masks; strings = h .strings; banks = h .banks } }) whole,
+      ap (λ (h : Hall). record {
+        yes = true;
+        hall = record { n = h .n + 1; masks = h .masks; strings = h .strings; banks = h .banks };
+      }) whole,
       ap (λ (l : List ℕ). l ++ drop both out)
           (c .before .before .tell-banks .ensures ∙ ap (λ (r : List ℕ). r ++ rebanked banks (renumbered n r)) front)
           ∙ append-assoc (take reportLength out) (rebanked banks (renumbered n (take reportLength out))) (drop both out),

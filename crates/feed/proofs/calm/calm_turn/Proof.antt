@@ -5,10 +5,10 @@ use mathlib.Core.Bool.{Bool, true, false}
 use mathlib.Core.List.{List, _++_, append-assoc}
 use Prim.Native.Nat.{ℕ, _+_, _-_}
 use native.Mathlib.Omega.{arith}
-use lib.ListN.{length, take, drop}
+use lib.ListN.{take, drop}
 use lib.Seq.{length-take-le, take-take}
 use Rattle.bits.proofs.Yes.{not-true, not-no}
-use Rattle.feed.specs.Size.{minorLength, reportLength}
+use Rattle.feed.specs.Size.{reportLength}
 use Rattle.feed.specs.Inside.Calm.{passes, passesAt, renumbered}
 use Rattle.feed.proofs.Calls.Calms.{passes-part}
 use Rattle.feed.proofs.calm.calm_turn.Statement.{statement}
@@ -56,4 +56,5 @@ pub calm-turn-spec : {M : Type 1} → statement M
 calm-turn-spec =
     tie.close
     (tie.spec (λ c. search needs) (λ c. search needs) (λ c. search needs) (λ c. search needs) (λ c κs. search needs) returns
-    (λ c. search needs) (λ c. search needs) slice-aggregate-tell-again (λ c. search needs) tell-again-requires (λ c. search needs) returns-2)
+    (λ c. search needs) (λ c. search needs) slice-aggregate-tell-again (λ c. search needs) tell-again-requires
+    (λ c. search needs) returns-2)

@@ -1,12 +1,11 @@
 -- `feed::calm::minor_marked` meets its contract: two bytes are a number, the low one first. Assumes nothing.
 use borrow.Author.Needs.{needs}
 use borrow.Author.Tests.{eq-eqb, eqb-true}
-use mathlib.Core.Path.{_≡_, sym, ap₂, _∙_}
-use mathlib.Core.Bool.{Bool, _&&_}
+use mathlib.Core.Path.{_≡_, ap₂, _∙_}
+use mathlib.Core.Bool.{_&&_}
 use Prim.Native.Nat.{ℕ, _+_, _*_, _<_}
 use native.Mathlib.Omega.{arith}
 use lib.Dec.{eqb}
-use lib.ListN.{getD}
 use Rattle.bits.proofs.Yes.{and-left, and-right, and-both, same-yes}
 use Rattle.feed.specs.Size.{markByte, minorMark}
 use Rattle.feed.proofs.calm.minor_marked.Statement.{statement}

@@ -2,7 +2,7 @@
 use borrow.Author.Needs.{needs}
 use borrow.Author.Tests.{eq-eqb, ne-eqb}
 use mathlib.Core.Path.{_≡_, sym, ap, _∙_}
-use mathlib.Core.Bool.{Bool, true, false, not, _&&_}
+use mathlib.Core.Bool.{Bool, true, false, _&&_}
 use Prim.Native.Nat.{ℕ, _+_, _%_}
 use lib.Dec.{eqb}
 use lib.ListN.{getD}
@@ -24,7 +24,10 @@ marked c b e = sym (c .minor-marked .ensures) ∙ e
 returns : tie.Need-returns
 returns c =
     let m = c .before in
-    rw (passes-by-mark (m .before .before .args .hall) (m .before .before .args .s .now), marked m false (not-true (m .minor-marked .result) (c .if1 .taken)))
+    rw (
+      passes-by-mark (m .before .before .args .hall) (m .before .before .args .s .now),
+      marked m false (not-true (m .minor-marked .result) (c .if1 .taken)),
+    )
 
 -- the number, as it is tested
 module _ (c : tie.After-two-at) where

@@ -1,10 +1,10 @@
 -- `feed::calm::stretch` meets its contract. Assumes nothing.
-use mathlib.Core.Path.{_≡_, ap₂, _∙_}
-use Prim.Native.Nat.{_-_, _/_}
+use mathlib.Core.Path.{ap₂, _∙_}
+use Prim.Native.Nat.{_-_}
 use borrow.Author.Needs.{needs}
 use borrow.Author.Tests.{lt-ltb, le-ltb}
 use native.Mathlib.Omega.{arith}
-use Rattle.feed.specs.Size.{minorLength, reportLength, outboxNeeded}
+use Rattle.feed.specs.Size.{outboxNeeded}
 use Rattle.feed.specs.Inside.Calm.{least, stretch}
 use Rattle.feed.proofs.calm.stretch.Statement.{statement}
 use Rattle.feed.proofs.calm.stretch.Tie as tie

@@ -1,6 +1,6 @@
 -- `feed::calm::tell_banks` meets its contract. Assumes nothing.
 use borrow.Author.Needs.{needs}
-use mathlib.Core.Path.{_≡_, refl, ap, ap₂, _∙_}
+use mathlib.Core.Path.{_≡_, ap, ap₂, _∙_}
 use mathlib.Core.List.{List, [], _++_, append-nil}
 use Prim.Native.Nat.{ℕ, _+_, _-_}
 use native.Mathlib.Omega.{arith}
@@ -40,7 +40,8 @@ module _ (r : List ℕ) (n : ℕ) (banks : List Bank) (t y : List ℕ) (long : l
   unfolding rebanked
   told z =
       let part : take (length t - reportLength) (drop reportLength t) ≡ renumbered n r = rest-whole reportLength t ∙ behind in
-      let none : drop reportLength (renumbered n r) ≡ [] = drop-of-length-le (renumbered n r) {i = reportLength} (omega (arith, again-long)) in
+      let none : drop reportLength (renumbered n r) ≡ [] =
+      drop-of-length-le (renumbered n r) {i = reportLength} (omega (arith, again-long)) in
       put-rest reportLength t y (omega (arith, whole))
       ∙ ap₂ (λ (a b : List ℕ). a ++ b) front
       (z

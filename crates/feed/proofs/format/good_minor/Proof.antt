@@ -1,7 +1,7 @@
 -- `feed::format::good_minor` meets its contract: what is left without a partial sum is right where the sum is, and only there.
 -- Assumes nothing.
-use Prim.Native.Nat.{ℕ, _+_, _%_, _^_}
-use mathlib.Core.Path.{_≡_, sym, ap₂, _∙_}
+use Prim.Native.Nat.{ℕ}
+use mathlib.Core.Path.{_≡_, sym, _∙_}
 use mathlib.Core.List.{List}
 use native.Mathlib.Omega.{arith}
 use borrow.Author.Needs.{needs}
@@ -10,7 +10,7 @@ use lib.Seq.{length-take-le}
 use Rattle.feed.specs.Size.{minorSummed}
 use Rattle.feed.specs.Bytes.{two}
 use Rattle.feed.specs.Format.{sumOf}
-use Rattle.feed.proofs.Records.Sums.{sum-span, rest-right, rest-of-right, part-most, minor-sum, minor-bad}
+use Rattle.feed.proofs.Records.Sums.{rest-right, rest-of-right, part-most, minor-sum, minor-bad}
 use Rattle.feed.proofs.format.good_minor.Statement.{statement}
 use Rattle.feed.proofs.format.good_minor.Tie as tie
 

@@ -15,7 +15,8 @@ use Rattle.feed.proofs.step.cold_among.Statement.{statement}
 use Rattle.feed.proofs.step.cold_among.Tie as tie
 
 abbrev Inv-loop : tie.InvT-loop
-Inv-loop s i n small₀ below-zero₀ k₀ small below-zero k = (k ≤ n) × ((small || below-zero) ≡ any k (λ j. cold (two s (i + temperatureLength * j))))
+Inv-loop s i n small₀ below-zero₀ k₀ small below-zero k =
+    (k ≤ n) × ((small || below-zero) ≡ any k (λ j. cold (two s (i + temperatureLength * j))))
 
 abbrev μ-loop : tie.MeasureT-loop
 μ-loop s i n small₀ below-zero₀ k₀ small below-zero k = n - k

@@ -9,7 +9,6 @@ use borrow.Author.Needs.{needs}
 use borrow.Rule.Slice.PartMut.{putMid, same-len-mid}
 use lib.ListN.{length, take, length-drop}
 use lib.Seq.{length-take-le}
-use Rattle.cycle.specs.Size.{lastCount}
 use Rattle.bits.proofs.Yes.{not-both, not-true, not-no}
 use Rattle.feed.specs.Size.{storeLength, mostHeld, reportLength, outboxNeeded}
 use Rattle.feed.specs.Inside.Calm.{passesAt}
@@ -20,7 +19,7 @@ use Rattle.feed.proofs.Calls.Calling.{InOrder, put-in-order, held-short
 use Rattle.feed.proofs.Calls.Running.{monitorAt, Loops, loop-starts, out-long, loop-ends, loop-leaves, loop-goes, no-room, put-rest}
 use Rattle.feed.proofs.Calls.Running.{runs-start}
 use Rattle.feed.proofs.Calls.CalmRuns.{Calmed, part-kept, calm-room, major-there, major-goes, calm-left}
-use Rattle.feed.proofs.Calls.Stretches.{Stretching, ahead-below, ahead-minor, stretch-starts, stretch-stops, stretch-full, stretch-goes}
+use Rattle.feed.proofs.Calls.Stretches.{Stretching, ahead-below, ahead-minor, stretch-starts, stretch-stops, stretch-goes}
 use Rattle.feed.proofs.call.Monitor.run.Statement.{statement}
 use Rattle.feed.proofs.call.Monitor.run.Tie as tie
 
@@ -56,7 +55,8 @@ kept c = c .before .before .held-count .result
 abbrev cleared : tie.After-clear Inv-loop2 μ-loop2 Inv-loop μ-loop → List ℕ
 cleared c = putMid (kept c) (storeLength - kept c) (entry c .args .self .held) (c .clear .last .0)
 
-ordered : (c : tie.After-clear Inv-loop2 μ-loop2 Inv-loop μ-loop) → InOrder (entry c .args .self .count) (entry c .args .self .held) (cleared c) (kept c)
+ordered : (c : tie.After-clear Inv-loop2 μ-loop2 Inv-loop μ-loop)
+    → InOrder (entry c .args .self .count) (entry c .args .self .held) (cleared c) (kept c)
 ordered c =
     put-in-order (entry c .args .self .count) (entry c .args .self .held) (kept c) (c .clear .last .0) (held-long (entry c))
     (c .before .before .held-count .ensures)
@@ -124,7 +124,8 @@ here : (c : tie.At-loop2 Inv-loop2 μ-loop2 Inv-loop μ-loop)
     (c .loop2 .hall) (outer c .loop .b) (outer c .loop .count) (c .loop2 .used) (c .loop2 .written) (c .loop2 .out)
 here c = c .loop2 .inv .loops _ _ (outer c .loop .inv .0)
 
-last-within : (c : tie.In-loop2 Inv-loop2 μ-loop2 Inv-loop μ-loop) → c .before .loop2 .written - reportLength ≤ length (c .before .loop2 .out)
+last-within : (c : tie.In-loop2 Inv-loop2 μ-loop2 Inv-loop μ-loop)
+    → c .before .loop2 .written - reportLength ≤ length (c .before .loop2 .out)
 last-within c = omega (arith, c .before .loop2 .inv .room)
 
 calm-turn-requires : tie.Need-calm-turn-requires Inv-loop2 μ-loop2 Inv-loop μ-loop
@@ -138,7 +139,10 @@ calm-turn-requires c κs =
       ),
       (
         (x .calmed .turned, x .calmed .words),
-        (ahead-below (l .loop2 .hall .n) (l .loop2 .left) (x .ahead) some, ahead-minor (l .loop2 .hall .n) (l .loop2 .left) (x .ahead) some),
+        (
+          ahead-below (l .loop2 .hall .n) (l .loop2 .left) (x .ahead) some,
+          ahead-minor (l .loop2 .hall .n) (l .loop2 .left) (x .ahead) some,
+        ),
       ),
     )
 
@@ -202,7 +206,8 @@ loop2-again-2 c =
 
 -- ---- a calm major record
 
-major-within : (c : tie.After-loop2 Inv-loop2 μ-loop2 Inv-loop μ-loop) → c .before .loop2 .written - reportLength ≤ length (c .before .loop2 .out)
+major-within : (c : tie.After-loop2 Inv-loop2 μ-loop2 Inv-loop μ-loop)
+    → c .before .loop2 .written - reportLength ≤ length (c .before .loop2 .out)
 major-within c = omega (arith, c .before .loop2 .inv .room)
 
 major-room : (c : tie.At-loop2 Inv-loop2 μ-loop2 Inv-loop μ-loop) → outboxNeeded ≤ length (c .loop2 .out) - c .loop2 .written
@@ -247,7 +252,8 @@ major-again c =
     let at-turn = kept-turn (c .before) in
     let l = behind (c .before) in
     let g = major-goes _ _ _ _ _ _ _ _ _ _ _ (here l) (l .loop2 .inv .calmed) (major-room l) (at-turn .calm-major .result)
-    (at-turn .calm-major .ensures .0) (c .before .if4 .taken) (at-turn .calm-major .last .1 .1 .1 .1 .1 .0) (at-turn .calm-major .ensures .1) in
+    (at-turn .calm-major .ensures .0) (c .before .if4 .taken) (at-turn .calm-major .last .1 .1 .1 .1 .1 .0)
+    (at-turn .calm-major .ensures .1) in
     (g .0, λ y. g .1)
 
 -- ---- any other record
@@ -375,7 +381,10 @@ returns-3 c =
 pub run-spec : {M : Type 1} → statement M
 run-spec =
     tie.close
-    (tie.spec Inv-loop2 μ-loop2 Inv-loop μ-loop returns (λ c κs. search needs) sub-clear part-b-start part-b-end (λ c κs. search needs) loop-holds add-loop
-    sub-stretch sub-stretch-2 (λ c κs. search needs) loop2-holds (λ c. c .before .loop2 .inv .calmed .told) last-within last-within (λ c. search needs)
-    calm-turn-requires add-hall add-used calm-written sub-left loop2-less loop2-again loop2-less-2 loop2-again-2 (λ c. c .before .loop2 .inv .calmed .told) major-within major-within (λ c. search needs) calm-major-requires major-used major-written major-less major-again slice-aggregate-turn sub-turn part-turn-start (λ c. search needs) turn-requires same-length returns-2 (λ c κs. search needs) add-written
-    loop-less loop-again same-length-2 returns-3)
+    (tie.spec Inv-loop2 μ-loop2 Inv-loop μ-loop returns (λ c κs. search needs) sub-clear part-b-start part-b-end (λ c κs. search needs)
+    loop-holds add-loop sub-stretch sub-stretch-2 (λ c κs. search needs) loop2-holds (λ c. c .before .loop2 .inv .calmed .told)
+    last-within last-within (λ c. search needs) calm-turn-requires add-hall add-used calm-written sub-left loop2-less loop2-again
+    loop2-less-2 loop2-again-2 (λ c. c .before .loop2 .inv .calmed .told) major-within major-within (λ c. search needs)
+    calm-major-requires major-used major-written major-less major-again slice-aggregate-turn sub-turn part-turn-start
+    (λ c. search needs) turn-requires same-length returns-2 (λ c κs. search needs) add-written loop-less loop-again same-length-2
+    returns-3)
