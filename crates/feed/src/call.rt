@@ -223,7 +223,8 @@ impl Monitor {
         }
     }
 
-    // Calls, one after the other, each with the rest of the outbox, until one settles nothing or there is no room for a call.
+    // Calls, one after the other, each with the rest of the outbox, until one settles nothing or there is no room for a call. Where nothing
+    // is under way, first a stretch of calm minor records, then a calm major one; any other goes the long way.
     pub fn run(self, piece: &[u8], out: &mut [u8]) -> Ran
         ensures { λ r. ⌜ Ran-by (runs (length (now (out .entry))) self (now (piece .entry))) (now (out .entry)) r (now (out .exit)) ⌝ }
     {
@@ -243,24 +244,25 @@ impl Monitor {
         let mut written: usize = 0;
         let mut calm = false;
         let mut jets = [0u32; STRINGS];
-        let mut mapped = [0u32; STRINGS];
+        let mut turned = [0u32; STRINGS];
         while written + OUTBOX_NEEDED <= out.len() {
             if calm {
                 let mut left = stretch(hall.n, piece.len() - used, out.len() - written);
                 while 0 < left {
-                    if calm_turn(hall, mapped, piece, used, &mut out[written - REPORT..]) {
+                    if calm_turn(hall, turned, piece, used, &mut out[written - REPORT..]) {
                         hall.n = hall.n + 1;
                         used += MINOR_LENGTH;
                         written += REPORT;
                         left -= 1;
                         continue;
                     }
+                    // And no `break`: so the loop has one way out.
                     left = 0;
                 }
                 let x = calm_major(
                     hall,
                     jets,
-                    mapped,
+                    turned,
                     piece,
                     used,
                     &mut out[written - REPORT..],
@@ -294,10 +296,10 @@ impl Monitor {
             let answer = t.answer;
             let after = calm_after(answer, count, hall);
             let plain = after.jets;
-            let words = after.mapped;
+            let words = after.turned;
             calm = after.yes;
             jets = plain;
-            mapped = words;
+            turned = words;
             written += REPORT;
         }
         let monitor = Monitor {

@@ -1,6 +1,6 @@
-// Calm records: where nothing is under way, a minor record of the next cycle that finds nothing changes the number alone. It is told apart
-// by its bytes, where they lie; no string is stepped, and its report is the one before with another number. They come in stretches, from
-// one major record to the next.
+// Calm records: where nothing is under way, a minor record of the next cycle that finds nothing changes the number alone, and a major one
+// that asks for nothing either the number, the good copies and the banks. They are told apart by their bytes, where they lie; no string is
+// stepped, and the report is the one before with another number, and other banks. Minor ones come in stretches, from one major to the next.
 ghost use mathlib.Core.Path.{_≡_};
 ghost use mathlib.Core.Bool.{true, false, cond, _&&_};
 ghost use mathlib.Core.List.{_++_};
@@ -13,13 +13,13 @@ ghost use Rattle.cycle.specs.Numbers.{isMajor};
 ghost use Rattle.cycle.specs.Calm.{mappedWords, allQuiet};
 ghost use Rattle.feed.specs.Size.{markByte, minorMark, minorLength, majorLength, reportLength};
 ghost use Rattle.feed.specs.Values.{minorOf};
-ghost use Rattle.feed.specs.Inside.Calm.{Words, turnedSample, turnedWords, passes, passesAt, renumbered, toldAgain, calmAfter};
+ghost use Rattle.feed.specs.Inside.Calm.{Words, turnedSample, turnedWords, TurnedJets, passes, passesAt, renumbered, toldAgain, calmAfter};
 ghost use Rattle.feed.specs.Inside.Calm.{least, minorsAhead, stretch};
 ghost use Rattle.feed.specs.Inside.Calm.{noneAsked, allStill, majorPasses, majorPassesAt, rebanked, toldKept, keptBy};
+use crate::bytes::low_two_at;
 use crate::bytes::put_four;
 use crate::bytes::turned32;
 use crate::bytes::two_at;
-use crate::bytes::wide16;
 use crate::format::good_major;
 use crate::format::good_minor;
 use crate::report::put_banks;
@@ -55,11 +55,11 @@ use cycle::size::STRINGS;
 use cycle::values::Requests;
 use cycle::values::Sample;
 
-// Whether calm records can follow, and then each string's mapped jets, with the bytes in the order of a record.
+// Whether calm records can follow, and then each string's mapped jets, as numbers and with the bytes in the order of a record.
 pub struct Calm {
     pub yes: bool,
     pub jets: [u32; STRINGS],
-    pub mapped: [u32; STRINGS],
+    pub turned: [u32; STRINGS],
 }
 
 // What a major record that may be calm leaves: whether it is, and the hall.
@@ -105,22 +105,22 @@ pub(crate) fn calm_after(answer: Answer, count: usize, hall: Hall) -> Calm
         Calm {
             yes: true,
             jets: jets,
-            mapped: words,
+            turned: words,
         }
     } else {
         let none = [0u32; STRINGS];
         Calm {
             yes: false,
             jets: none,
-            mapped: none,
+            turned: none,
         }
     }
 }
 
 // Do the record's samples find nothing?
-fn all_quiet(hall: Hall, mapped: [u32; STRINGS], s: &[u8]) -> bool
+fn all_quiet(hall: Hall, turned: [u32; STRINGS], s: &[u8]) -> bool
     requires { ⌜ length (now s) ≡ minorLength ⌝ }
-    requires { ⌜ (mapped ≡ turnedWords (mappedWords (hall .masks))) × Words (mappedWords (hall .masks)) ⌝ }
+    requires { ⌜ TurnedJets hall turned ⌝ }
     ensures { λ r. ⌜ r ≡ allQuiet (minorOf (now (s .entry))) hall ⌝ }
 {
     let strings = hall.strings;
@@ -129,7 +129,7 @@ fn all_quiet(hall: Hall, mapped: [u32; STRINGS], s: &[u8]) -> bool
     while k < STRINGS {
         let string = strings[k];
         let sample = sample_at(s, SAMPLES_FROM + SAMPLE_LENGTH * k);
-        found = found & string.is_quiet(mapped[k], turned_sample(sample));
+        found = found & string.is_quiet(turned[k], turned_sample(sample));
         k += 1;
     }
     (s[PATH_AT] == 0) & found
@@ -153,7 +153,7 @@ fn minors_ahead(n: u32) -> usize
 }
 
 // How many calm minor records a stretch has at the most: by the number, by the bytes of the piece that are left, and by the room in the
-// outbox, which keeps that of one report more. So no record of it needs to be asked for these.
+// outbox, which keeps that of one report more, for the record behind the stretch. So no record of it needs to be asked for these.
 pub(crate) fn stretch(n: u32, fed: usize, room: usize) -> usize
     ensures { λ r. ⌜ r ≡ stretch n fed room ⌝ }
 {
@@ -166,17 +166,17 @@ pub(crate) fn stretch(n: u32, fed: usize, room: usize) -> usize
 
 // Is the mark at the front a minor record's? Both bytes at once.
 fn minor_marked(s: &[u8]) -> bool
-    requires { ⌜ length (now s) ≡ minorLength ⌝ }
+    requires { ⌜ 1 < length (now s) ⌝ }
     ensures { λ r. ⌜ r ≡ (eqb (getD (now (s .entry)) 0 0) markByte && eqb (getD (now (s .entry)) 1 0) minorMark) ⌝ }
 {
-    wide16(s[1]) * 256 + wide16(s[0]) == MINOR_MARKS
+    low_two_at(s, 0) == MINOR_MARKS
 }
 
-// Are the bytes a good minor record of the next cycle, which is a minor one, that finds nothing? The sum comes last: it is the dearest test.
-fn passes(hall: Hall, mapped: [u32; STRINGS], s: &[u8]) -> bool
+// Are the bytes a good minor record that finds nothing, of the next cycle, which is a minor one? The sum comes last, the dearest test.
+fn passes(hall: Hall, turned: [u32; STRINGS], s: &[u8]) -> bool
     requires { ⌜ length (now s) ≡ minorLength ⌝ }
     requires { ⌜ (hall .n < lastCount) × (isMajor (hall .n + 1) ≡ false) ⌝ }
-    requires { ⌜ (mapped ≡ turnedWords (mappedWords (hall .masks))) × Words (mappedWords (hall .masks)) ⌝ }
+    requires { ⌜ TurnedJets hall turned ⌝ }
     ensures { λ r. ⌜ r ≡ passes hall (now (s .entry)) ⌝ }
 {
     if !minor_marked(s) {
@@ -185,7 +185,7 @@ fn passes(hall: Hall, mapped: [u32; STRINGS], s: &[u8]) -> bool
     if two_at(s, WIRE_AT) != ((hall.n + 1) % 65536) as u16 {
         return false;
     }
-    if !all_quiet(hall, mapped, s) {
+    if !all_quiet(hall, turned, s) {
         return false;
     }
     good_minor(s)
@@ -217,18 +217,18 @@ fn tell_again(s: &mut [u8], n: u32)
 // the outbox begins.
 pub(crate) fn calm_turn(
     hall: Hall,
-    mapped: [u32; STRINGS],
+    turned: [u32; STRINGS],
     piece: &[u8],
     from: usize,
     out: &mut [u8],
 ) -> bool
     requires { ⌜ (from + minorLength ≤ length (now piece)) × (reportLength + reportLength ≤ length (now out)) ⌝ }
-    requires { ⌜ (mapped ≡ turnedWords (mappedWords (hall .masks))) × Words (mappedWords (hall .masks)) ⌝ }
+    requires { ⌜ TurnedJets hall turned ⌝ }
     requires { ⌜ (hall .n < lastCount) × (isMajor (hall .n + 1) ≡ false) ⌝ }
     ensures { λ r. ⌜ r ≡ passesAt hall from (now (piece .entry)) ⌝ }
     ensures { λ r. ⌜ now (out .exit) ≡ cond (passesAt hall from (now (piece .entry))) (toldAgain (hall .n + 1) (now (out .entry))) (now (out .entry)) ⌝ }
 {
-    if !passes(hall, mapped, &piece[from..from + MINOR_LENGTH]) {
+    if !passes(hall, turned, &piece[from..from + MINOR_LENGTH]) {
         return false;
     }
     tell_again(&mut out[..REPORT + REPORT], hall.n + 1);
@@ -251,10 +251,11 @@ fn none_asked(s: &[u8]) -> bool
     none
 }
 
-// Do the samples of a major record that asks for nothing find nothing, in any of the eight steps?
-fn all_still(hall: Hall, jets: [u32; STRINGS], mapped: [u32; STRINGS], s: &[u8]) -> bool
+// Does no string find anything in any step, where the record asks for nothing, but what its temperatures say? One loop for all steps, and
+// none shared with minor records: each has a single caller, so that the compiler leaves the hall where it is.
+fn all_still(hall: Hall, jets: [u32; STRINGS], turned: [u32; STRINGS], s: &[u8]) -> bool
     requires { ⌜ (majorLength ≤ length (now s)) × (noneAsked (now s) ≡ true) ⌝ }
-    requires { ⌜ (jets ≡ mappedWords (hall .masks)) × (mapped ≡ turnedWords (mappedWords (hall .masks))) × Words (mappedWords (hall .masks)) ⌝ }
+    requires { ⌜ (jets ≡ mappedWords (hall .masks)) × TurnedJets hall turned ⌝ }
     ensures { λ r. ⌜ r ≡ allStill hall (now (s .entry)) ⌝ }
 {
     let none = Requests {
@@ -270,7 +271,7 @@ fn all_still(hall: Hall, jets: [u32; STRINGS], mapped: [u32; STRINGS], s: &[u8])
         let string = strings[k];
         let on = string.on;
         let sample = sample_at(s, SAMPLES_FROM + SAMPLE_LENGTH * k);
-        quiet = quiet & string.is_quiet(mapped[k], turned_sample(sample));
+        quiet = quiet & string.is_quiet(turned[k], turned_sample(sample));
         still = still & finds_none(on, string.close, jets[k], sample, none);
         k += 1;
     }
@@ -278,9 +279,9 @@ fn all_still(hall: Hall, jets: [u32; STRINGS], mapped: [u32; STRINGS], s: &[u8])
 }
 
 // Are the bytes a good major record of the next cycle that finds nothing and asks for nothing?
-fn major_passes(hall: Hall, jets: [u32; STRINGS], mapped: [u32; STRINGS], s: &[u8]) -> bool
+fn major_passes(hall: Hall, jets: [u32; STRINGS], turned: [u32; STRINGS], s: &[u8]) -> bool
     requires { ⌜ length (now s) ≡ majorLength ⌝ }
-    requires { ⌜ (jets ≡ mappedWords (hall .masks)) × (mapped ≡ turnedWords (mappedWords (hall .masks))) × Words (mappedWords (hall .masks)) ⌝ }
+    requires { ⌜ (jets ≡ mappedWords (hall .masks)) × TurnedJets hall turned ⌝ }
     ensures { λ r. ⌜ r ≡ majorPasses hall (now (s .entry)) ⌝ }
 {
     if s[0] != MARK {
@@ -295,7 +296,7 @@ fn major_passes(hall: Hall, jets: [u32; STRINGS], mapped: [u32; STRINGS], s: &[u
     if !none_asked(s) {
         return false;
     }
-    if !all_still(hall, jets, mapped, s) {
+    if !all_still(hall, jets, turned, s) {
         return false;
     }
     if some_leaks(jets, s) {
@@ -318,13 +319,13 @@ fn tell_banks(s: &mut [u8], n: u32, banks: [Bank; MODULES])
 pub(crate) fn calm_major(
     hall: Hall,
     jets: [u32; STRINGS],
-    mapped: [u32; STRINGS],
+    turned: [u32; STRINGS],
     piece: &[u8],
     from: usize,
     out: &mut [u8],
 ) -> Kept
     requires { ⌜ (from ≤ length (now piece)) × (reportLength + reportLength ≤ length (now out)) ⌝ }
-    requires { ⌜ (jets ≡ mappedWords (hall .masks)) × (mapped ≡ turnedWords (mappedWords (hall .masks))) × Words (mappedWords (hall .masks)) ⌝ }
+    requires { ⌜ (jets ≡ mappedWords (hall .masks)) × TurnedJets hall turned ⌝ }
     ensures { λ r. ⌜ r ≡ keptBy (majorPassesAt hall from (now (piece .entry))) hall from (now (piece .entry)) ⌝ }
     ensures { λ r. ⌜ now (out .exit) ≡ cond (r .yes) (toldKept (r .hall) (now (out .entry))) (now (out .entry)) ⌝ }
 {
@@ -335,7 +336,7 @@ pub(crate) fn calm_major(
         };
     }
     let s = &piece[from..from + MAJOR_LENGTH];
-    if !major_passes(hall, jets, mapped, s) {
+    if !major_passes(hall, jets, turned, s) {
         return Kept {
             yes: false,
             hall: hall,

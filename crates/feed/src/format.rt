@@ -45,8 +45,9 @@ pub enum Look {
     Settles(Kind),
 }
 
-// A record's sum is taken by spans: the compiler adds 8, 16, 32 or 64 bytes by a few wide instructions, as long as it does not join them
-// with others. So the last span is taken off what the record says its sum is, and a branch or a loop parts the spans before it.
+// A record's sum is taken by spans: the compiler adds 16, 32 or 64 bytes by a few wide instructions, as long as it does not join them with
+// others. So the last span is taken off what the record says its sum is, and a branch or a loop parts the spans before it; of a minor record
+// nine bytes are left, and are added as they are.
 const SPAN: usize = 32;
 
 const LONG_SPAN: usize = 2 * SPAN;
@@ -157,7 +158,7 @@ pub(crate) fn good_minor(s: &[u8]) -> bool
         sum(&s[MINOR_LAST..MINOR_SUMMED]),
     );
     let middle = sum(&s[MINOR_MIDDLE..MINOR_LAST]);
-    // The sum of the bytes before the last span does not wrap: it is no less than that of the middle one.
+    // The sum of the bytes before the last span does not wrap, so less than that of the middle one is wrong; and the branch parts the two.
     if rest < middle {
         return false;
     }

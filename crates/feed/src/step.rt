@@ -131,8 +131,8 @@ const SIGNS: u32 = 65537 * (BELOW_ZERO_FROM as u32);
 const LEAST_WARM: u32 = 65537 * (LEAK_MOST as u32 + 1);
 
 // Does one of these jets leak, of the string whose temperatures begin at `i`? One after the other is visited, lowest first, and no other.
-// Both words of a jet are told at once: one below zero has its sign bit, and a small one gets it when the least warm is taken away. (A small
-// oxidizer word then borrows from the fuel word, but the jet leaks anyway.)
+// Both words of a jet are told at once: one below zero has its sign bit, and a small one gets it when the least warm is taken away. (A
+// small oxidizer word then borrows from the fuel word, but the jet leaks anyway.)
 fn leak_among(jets: u32, s: &[u8], i: usize) -> bool
     requires { ⌜ i + temperaturesLength ≤ length (now s) ⌝ }
     ensures { λ r. ⌜ r ≡ someLeak jets (temperaturesAt (now (s .entry)) i) ⌝ }
@@ -162,7 +162,7 @@ fn some_leak(mapped: u32, s: &[u8], i: usize) -> bool
     }
 }
 
-// Are all jets of all strings mapped?
+// Are all jets of all strings mapped? Written out: there is nothing to loop for.
 fn all_mapped(mapped: [u32; STRINGS]) -> bool
     ensures { λ r. ⌜ r ≡ allMapped mapped ⌝ }
 {

@@ -62,9 +62,14 @@ pub fn input(seed: u64, size: usize) -> (Vec<u8>, u64) {
 }
 
 impl Night {
-    /// A night that goes on from cycle `n`.
+    /// A lively night that goes on from cycle `n`.
     pub fn after(n: u32, masks: &Masks, mut random: Random) -> Night {
         let chances = Chances::drawn(&mut random);
+        Night::of(n, masks, chances, random)
+    }
+
+    /// A night of these chances.
+    pub fn of(n: u32, masks: &Masks, chances: Chances, random: Random) -> Night {
         let last = Record::quiet(n.into()).bytes();
         Night { random, chances, world: World::over(masks), cycle: n.into(), last, damaged: 0 }
     }

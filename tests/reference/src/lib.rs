@@ -42,6 +42,7 @@ pub mod request_cases;
 pub mod request_input;
 pub mod score;
 pub mod script;
+pub mod slips;
 pub mod strangers;
 pub mod tally;
 pub mod temperature_cases;

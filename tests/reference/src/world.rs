@@ -6,6 +6,7 @@ use crate::jet::{bit, ALL_MANIFOLDS, MANIFOLDS};
 use crate::maps::union;
 use crate::random::Random;
 use crate::record::{Major, Record, StringMajor, ALL_OPEN};
+use crate::slips::slip;
 
 /// Which words of a jet leak, fuel then oxidizer.
 const NEITHER: [bool; 2] = [false, false];
@@ -31,6 +32,8 @@ pub struct Chances {
     pub jumps: u64,
     pub damage: u64,
     pub odd: u64,
+    /// A record of a calm hall has a slip.
+    slips: u64,
 }
 
 impl Chances {
@@ -48,6 +51,26 @@ impl Chances {
             jumps: random.pick(&[0, 200, 1_000]),
             damage: random.pick(&[0, 4, 25, 200]),
             odd: random.pick(&[0, 5, 30, 200]),
+            slips: 0,
+        }
+    }
+
+    /// A calm hall: nothing but slips, and little on the line.
+    pub fn calm(random: &mut Random) -> Chances {
+        Chances {
+            jets: 0,
+            valves: 0,
+            paths: 0,
+            requests: 0,
+            drops: 0,
+            both_ways: 0,
+            sent_again: 0,
+            noise: 0,
+            gaps: random.pick(&[0, 150, 1_000]),
+            jumps: random.pick(&[0, 0, 3_000]),
+            damage: random.pick(&[0, 60, 400]),
+            odd: random.pick(&[0, 60, 400]),
+            slips: random.pick(&[6, 20, 100]),
         }
     }
 
@@ -66,6 +89,7 @@ impl Chances {
             jumps: 0,
             damage: 0,
             odd: 0,
+            slips: 0,
         }
     }
 }
@@ -126,6 +150,9 @@ impl World {
         }
         if let Some(major) = &mut record.major {
             self.fill(major, chances, random);
+        }
+        if random.one_in(chances.slips) {
+            slip(&mut record, random);
         }
         record
     }

@@ -1,18 +1,17 @@
 -- A calm major record is settled by a call as the shortcut says: it is taken, only the number, the good copies and the banks change, and
 -- its report is the one before with another number and other banks. Assumes nothing.
 use mathlib.Core.Path.{_≡_, refl, sym, ap, ap₂, _∙_}
-use mathlib.Core.Bool.{Bool, true, false, cond, not, _&&_}
+use mathlib.Core.Bool.{Bool, true, cond, not, _&&_}
 use mathlib.Core.List.{List}
 use mathlib.Core.Logic.{inr}
 use Prim.Native.Nat.{ℕ, _+_, _-_, _*_, _<_, _≤_}
-use native.Mathlib.Nat.{add-sub-cancel-left}
 use native.Mathlib.Omega.{arith}
-use borrow.Author.Tests.{eqb-true, ltb-true, ltb-false, lt-ltb, le-ltb}
+use borrow.Author.Tests.{eqb-true, ltb-true}
 use lib.Dec.{eqb, ltb}
-use lib.ListN.{length, getD, take, drop}
+use lib.ListN.{length, getD, drop}
 use Rattle.bits.specs.Bit.{any, every}
 use Rattle.bits.proofs.Every.{every-at, every-same}
-use Rattle.bits.proofs.Yes.{and-left, and-right, and-both, not-both}
+use Rattle.bits.proofs.Yes.{and-left, and-right, and-both}
 use Rattle.cycle.specs.Size.{stringCount, lastCount}
 use Rattle.cycle.specs.Hall.{noRequests, pastString, stringOf, stepped}
 use Rattle.cycle.specs.Records.{minor, major}
@@ -28,7 +27,7 @@ use Rattle.feed.specs.Bytes.{two, four}
 use Rattle.feed.specs.Format.{sumOf, sumRight, reservedZero, quantitiesRight, goodMajor}
 use Rattle.feed.specs.Good.{WholeRecord}
 use Rattle.feed.specs.Values.{sampleAt, minorOf, requestsAt, quantitiesOf, majorOf, valuesOf}
-use Rattle.feed.specs.Inside.Calm.{leakAt, noneFoundIn, noneAsked, allStill, majorPasses, majorPassesAt}
+use Rattle.feed.specs.Inside.Calm.{leakAt, noneFoundIn, noneAsked, allStill, majorPasses}
 use Rattle.feed.proofs.Records.ColdWords.{quiet-told}
 use Rattle.feed.proofs.Records.GoodParts.{quantities-to}
 
@@ -143,26 +142,3 @@ module _ (h : Hall) (l : List ℕ) (p : majorPasses h l ≡ true) where
       let kind : eqb (getD l 1 0) majorMark ≡ true = ap (λ (b : ℕ). eqb b majorMark) (marked .1) in
       ap (λ (b : Bool). stepped (cond b (major (majorOf l)) (minor (minorOf l))) h) kind
       ∙ major-passes (majorOf l) h c finds-none next quiet-steps
-
--- ---- in the piece
-
-module _ (h : Hall) (from : ℕ) (piece : List ℕ) where
-  pub major-short : length piece - from < majorLength → majorPassesAt h from piece ≡ false
-  major-short l = rw (lt-ltb (length piece - from) majorLength l)
-
-  -- by the part that is looked at
-  pub major-part : majorLength ≤ length piece - from → (b : Bool) → b ≡ majorPasses h (take (from + majorLength - from) (drop from piece))
-      → majorPassesAt h from piece ≡ b
-  major-part l b e =
-      rw (le-ltb (length piece - from) majorLength l)
-      (ap (λ (n : ℕ). majorPasses h (take n (drop from piece))) (sym (add-sub-cancel-left from majorLength)) ∙ sym e)
-
-  -- the piece has that many bytes, and they pass
-  pub major-long : majorPassesAt h from piece ≡ true
-      → (majorLength ≤ length piece - from) × (majorPasses h (take majorLength (drop from piece)) ≡ true)
-  major-long e = by (ltb (length piece - from) majorLength) refl e
-    where
-      by : (t : Bool) → ltb (length piece - from) majorLength ≡ t → cond t false (majorPasses h (take majorLength (drop from piece))) ≡ true
-          → (majorLength ≤ length piece - from) × (majorPasses h (take majorLength (drop from piece)) ≡ true)
-      by true q z = not-both false z refl
-      by false q z = (ltb-false (length piece - from) majorLength q, z)

@@ -34,8 +34,8 @@ use Rattle.feed.specs.Reader.{Stop, reads, store}
 use Rattle.feed.specs.Report.{headOf, stringBytes, stringsBytes, reportBy, reportedFail, reportedClose, reportOf}
 use Rattle.feed.specs.Call.{holds, holding, Result, calledBy, called, call}
 use Rattle.feed.specs.OneRecord.{settledTo}
-use Rattle.feed.specs.Inside.Calm.{Words, turnedWords, passesAt, renumbered, toldAgain, calmAfter}
-use Rattle.feed.specs.Inside.Calm.{majorPassesAt, keptAfter, rebanked, toldKept, keptBy}
+use Rattle.feed.specs.Inside.Calm.{Words, turnedWords, TurnedJets, passes, passesAt, renumbered, toldAgain, calmAfter}
+use Rattle.feed.specs.Inside.Calm.{majorPasses, majorPassesAt, keptAfter, rebanked, toldKept, keptBy}
 use Rattle.feed.specs.Inside.Turn.{Turns}
 use Rattle.feed.specs.declared.calm.Calm.{Calm}
 use Rattle.feed.specs.declared.calm.Kept.{Kept}
@@ -47,15 +47,14 @@ use Rattle.feed.proofs.Calls.Turning.{holds-same}
 use Rattle.feed.proofs.Calls.Calling.{call-called}
 use Rattle.feed.proofs.Calls.WholeCalls.{whole-call}
 use Rattle.feed.proofs.Calls.Running.{Loops, out-long, loop-goes, put-rest}
-use Rattle.feed.proofs.Calls.Calms.{passes-whole, passes-steps, passes-long}
-use Rattle.feed.proofs.Calls.CalmMajors.{major-whole, major-steps, major-long}
+use Rattle.feed.proofs.Calls.Calms.{passes-whole, passes-steps, tested-long}
+use Rattle.feed.proofs.Calls.CalmMajors.{major-whole, major-steps}
 
 -- nothing is under way or in the store, the mapped jets are the hall's, and the report before is that of a taken record
-pub record Calmed (hall : Hall) (jets mapped : List ℕ) (count written : ℕ) (out : List ℕ) : Type 0 where
+pub record Calmed (hall : Hall) (jets turned-jets : List ℕ) (count written : ℕ) (out : List ℕ) : Type 0 where
   pub calm : allCalm stringCount (hall .strings) ≡ true
   pub plain : jets ≡ mappedWords (hall .masks)
-  pub turned : mapped ≡ turnedWords (mappedWords (hall .masks))
-  pub words : Words (mappedWords (hall .masks))
+  pub turned : TurnedJets hall turned-jets
   pub none : count ≡ 0
   pub told : reportLength ≤ written
   pub before : take reportLength (drop (written - reportLength) out) ≡ reportOf Taken hall
@@ -104,8 +103,8 @@ report-kept q h =
 
 -- ---- the loop
 
-module _ (m : Monitor) (piece out₀ : List ℕ) (hall : Hall) (b jets mapped : List ℕ) (count used written : ℕ) (out : List ℕ)
-    (s : Loops m piece out₀ hall b count used written out) (c : Calmed hall jets mapped count written out)
+module _ (m : Monitor) (piece out₀ : List ℕ) (hall : Hall) (b jets turned-jets : List ℕ) (count used written : ℕ) (out : List ℕ)
+    (s : Loops m piece out₀ hall b count used written out) (c : Calmed hall jets turned-jets count written out)
     (full : outboxNeeded ≤ length out - written) where
   abbrev last : ℕ
   last = written - reportLength
@@ -175,7 +174,7 @@ module _ (m : Monitor) (piece out₀ : List ℕ) (hall : Hall) (b jets mapped : 
 
       -- one record more
       record-goes : Loops m piece out₀ after b count (used + size) (written + reportLength) (putMid last (length out - last) out o)
-          × Calmed after jets mapped count (written + reportLength) (putMid last (length out - last) out o)
+          × Calmed after jets turned-jets count (written + reportLength) (putMid last (length out - last) out o)
       record-goes =
           let w : written ≤ length out = omega (arith, s .room, out-long m piece out₀ hall b count used written out s) in
           let place : written + reportLength - reportLength ≡ written = omega arith in
@@ -187,8 +186,7 @@ module _ (m : Monitor) (piece out₀ : List ℕ) (hall : Hall) (b jets mapped : 
             record {
               calm = calm;
               plain = c .plain ∙ ap mappedWords map;
-              turned = c .turned ∙ ap (λ (x : List Masks). turnedWords (mappedWords x)) map;
-              words = rw map at (c .words);
+              turned = (c .turned .0 ∙ ap (λ (x : List Masks). turnedWords (mappedWords x)) map, rw map at (c .turned .1));
               none = c .none;
               told = omega arith;
               before =
@@ -200,9 +198,9 @@ module _ (m : Monitor) (piece out₀ : List ℕ) (hall : Hall) (b jets mapped : 
   -- a minor one
   pub calm-goes : passesAt hall used piece ≡ true → (o : List ℕ) → o ≡ toldAgain (hall .n + 1) lent
       → Loops m piece out₀ (onward hall) b count (used + minorLength) (written + reportLength) (putMid last (length out - last) out o)
-      × Calmed (onward hall) jets mapped count (written + reportLength) (putMid last (length out - last) out o)
+      × Calmed (onward hall) jets turned-jets count (written + reportLength) (putMid last (length out - last) out o)
   calm-goes pass o e =
-      let p = passes-long hall used piece pass in
+      let p = tested-long (passes hall) minorLength used piece pass in
       let l : List ℕ = take minorLength (drop used piece) in
       let n : length l ≡ minorLength = length-take-le minorLength (drop used piece) (rw (length-drop used piece) (p .0)) in
       record-goes (onward hall) minorLength (p .0) (passes-whole hall l (p .1) n) (passes-steps hall l (p .1) (c .calm)) (c .calm) refl o
@@ -214,10 +212,10 @@ module _ (m : Monitor) (piece out₀ : List ℕ) (hall : Hall) (b jets mapped : 
   major-told : majorPassesAt hall used piece ≡ true → (o : List ℕ) → o ≡ toldKept (keptAfter hall used piece) lent
       → Loops m piece out₀ (keptAfter hall used piece) b count (used + majorLength) (written + reportLength)
       (putMid last (length out - last) out o)
-      × Calmed (keptAfter hall used piece) jets mapped count (written + reportLength) (putMid last (length out - last) out o)
+      × Calmed (keptAfter hall used piece) jets turned-jets count (written + reportLength) (putMid last (length out - last) out o)
   unfolding keptAll
   major-told pass o e =
-      let p = major-long hall used piece pass in
+      let p = tested-long (majorPasses hall) majorLength used piece pass in
       let l : List ℕ = take majorLength (drop used piece) in
       let n : length l ≡ majorLength = length-take-le majorLength (drop used piece) (rw (length-drop used piece) (p .0)) in
       let after : Hall = keptAfter hall used piece in
@@ -233,11 +231,11 @@ module _ (m : Monitor) (piece out₀ : List ℕ) (hall : Hall) (b jets mapped : 
     passed = sym (ap (λ (x : Kept). x .yes) e) ∙ yes
 
     pub major-there : majorLength ≤ length piece - used
-    major-there = major-long hall used piece passed .0
+    major-there = tested-long (majorPasses hall) majorLength used piece passed .0
 
     pub major-goes : (o : List ℕ) → o ≡ cond (r .yes) (toldKept (r .hall) lent) lent
         → Loops m piece out₀ (r .hall) b count (used + majorLength) (written + reportLength) (putMid last (length out - last) out o)
-        × Calmed (r .hall) jets mapped count (written + reportLength) (putMid last (length out - last) out o)
+        × Calmed (r .hall) jets turned-jets count (written + reportLength) (putMid last (length out - last) out o)
     major-goes o z =
         let after : r .hall ≡ keptAfter hall used piece =
         ap (λ (x : Kept). x .hall) e ∙ ap (λ (t : Bool). cond t (keptAfter hall used piece) hall) passed in
@@ -255,25 +253,25 @@ settled-report false h s used out c e w = not-both false (ap (λ (x : Result). w
 -- what the test for what can follow it says
 abbrev chosen : Bool → Hall → Calm
 chosen t h =
-    cond t (record { yes = true; jets = mappedWords (h .masks); mapped = turnedWords (mappedWords (h .masks)) })
-    (record { yes = false; jets = replicate stringCount 0; mapped = replicate stringCount 0 })
+    cond t (record { yes = true; jets = mappedWords (h .masks); turned = turnedWords (mappedWords (h .masks)) })
+    (record { yes = false; jets = replicate stringCount 0; turned = replicate stringCount 0 })
 
 after-yes : (a : Answer) (count : ℕ) (h : Hall) → (calmAfter a count h) .yes ≡ true
     → ((isTaken a && (eqb count 0 && allCalm stringCount (h .strings))) ≡ true)
     × ((calmAfter a count h) .jets ≡ mappedWords (h .masks))
-    × ((calmAfter a count h) .mapped ≡ turnedWords (mappedWords (h .masks)))
+    × ((calmAfter a count h) .turned ≡ turnedWords (mappedWords (h .masks)))
 unfolding calmAfter
 after-yes a count h = by (isTaken a && (eqb count 0 && allCalm stringCount (h .strings)))
   where
     by : (t : Bool) → (chosen t h) .yes ≡ true
-        → (t ≡ true) × ((chosen t h) .jets ≡ mappedWords (h .masks)) × ((chosen t h) .mapped ≡ turnedWords (mappedWords (h .masks)))
+        → (t ≡ true) × ((chosen t h) .jets ≡ mappedWords (h .masks)) × ((chosen t h) .turned ≡ turnedWords (mappedWords (h .masks)))
     by true y = (refl, refl, refl)
     by false y = not-both false y refl
 
 pub calm-left : (m : Monitor) (piece out : List ℕ) (used written : ℕ) (r : Turned) (b o front : List ℕ) → length front ≡ written
     → Turns (called m piece out) used r b o → r .settled ≡ true → (calmAfter (r .answer) (r .count) (r .hall)) .yes ≡ true
     → Words (mappedWords (r .hall .masks))
-    → Calmed (r .hall) ((calmAfter (r .answer) (r .count) (r .hall)) .jets) ((calmAfter (r .answer) (r .count) (r .hall)) .mapped)
+    → Calmed (r .hall) ((calmAfter (r .answer) (r .count) (r .hall)) .jets) ((calmAfter (r .answer) (r .count) (r .hall)) .turned)
     (r .count) (written + reportLength) (front ++ o)
 unfolding called
 calm-left m piece out used written r b o front long t settled y w =
@@ -290,8 +288,7 @@ calm-left m piece out used written r b o front long t settled y w =
     record {
       calm = and-right (eqb (r .count) 0) _ rest;
       plain = told .1;
-      turned = told .2;
-      words = w;
+      turned = (told .2, w);
       none = eqb-true (r .count) 0 (and-left (eqb (r .count) 0) _ rest);
       told = omega arith;
       before =

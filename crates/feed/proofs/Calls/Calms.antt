@@ -1,4 +1,4 @@
--- A calm record is settled by a call as the shortcut says: it is taken, only the number changes, and its report is the one before with
+-- A calm minor record is settled by a call as the shortcut says: it is taken, only the number changes, and its report is the one before with
 -- another number. Assumes nothing.
 use mathlib.Core.Path.{_≡_, refl, sym, ap, _∙_}
 use mathlib.Core.Bool.{Bool, true, false, cond, _&&_}
@@ -32,7 +32,7 @@ use Rattle.feed.specs.Format.{sumOf, sumRight, reservedZero, goodMinor}
 use Rattle.feed.specs.Good.{WholeRecord}
 use Rattle.feed.specs.Values.{sampleAt, samplesOf, minorOf, majorOf, valuesOf}
 use Rattle.feed.specs.Inside.LowFirst.{turned}
-use Rattle.feed.specs.Inside.Calm.{Words, turnedSample, turnedWords, passes, passesAt}
+use Rattle.feed.specs.Inside.Calm.{Words, turnedSample, turnedWords, passes, testedAt}
 use Rattle.feed.proofs.Records.Tables.{table-at}
 use Rattle.feed.proofs.Records.TurnedWords.{quiet-turned, turned-at}
 
@@ -112,11 +112,6 @@ module _ (h : Hall) (l : List ℕ) (p : passes h l ≡ true) where
   good : goodMinor l ≡ true
   good = and-right (allQuiet (minorOf l) h) _ (and-right (follows (h .n) (two l wireAt) false) _ rest)
 
-  -- the number can go up
-  pub passes-below : h .n < lastCount
-  unfolding follows
-  passes-below = ltb-true (h .n) lastCount (and-left (ltb (h .n) lastCount) _ next)
-
   pub passes-whole : length l ≡ minorLength → WholeRecord l
   unfolding goodMinor reservedZero sumOf
   passes-whole long =
@@ -136,25 +131,24 @@ module _ (h : Hall) (l : List ℕ) (p : passes h l ≡ true) where
       let kind : eqb (getD l 1 0) majorMark ≡ false = ap (λ (b : ℕ). eqb b majorMark) (marked .1) in
       ap (λ (b : Bool). stepped (cond b (major (majorOf l)) (minor (minorOf l))) h) kind ∙ minor-passes (minorOf l) h c finds-none next
 
--- ---- in the piece
+-- ---- bytes in the piece that pass a test
 
-module _ (h : Hall) (from : ℕ) (piece : List ℕ) where
-  pub passes-short : length piece - from < minorLength → passesAt h from piece ≡ false
-  passes-short l = rw (lt-ltb (length piece - from) minorLength l)
+module _ (test : List ℕ → Bool) (size from : ℕ) (piece : List ℕ) where
+  pub tested-short : length piece - from < size → testedAt test size from piece ≡ false
+  tested-short l = rw (lt-ltb (length piece - from) size l)
 
   -- by the part that is looked at
-  pub passes-part : minorLength ≤ length piece - from → (b : Bool) → b ≡ passes h (take (from + minorLength - from) (drop from piece))
-      → passesAt h from piece ≡ b
-  passes-part l b e =
-      rw (le-ltb (length piece - from) minorLength l)
-      (ap (λ (n : ℕ). passes h (take n (drop from piece))) (sym (add-sub-cancel-left from minorLength)) ∙ sym e)
+  pub tested-part : size ≤ length piece - from → (b : Bool) → b ≡ test (take (from + size - from) (drop from piece))
+      → testedAt test size from piece ≡ b
+  tested-part l b e =
+      rw (le-ltb (length piece - from) size l)
+      (ap (λ (n : ℕ). test (take n (drop from piece))) (sym (add-sub-cancel-left from size)) ∙ sym e)
 
   -- the piece has that many bytes, and they pass
-  pub passes-long : passesAt h from piece ≡ true
-      → (minorLength ≤ length piece - from) × (passes h (take minorLength (drop from piece)) ≡ true)
-  passes-long e = by (ltb (length piece - from) minorLength) refl e
+  pub tested-long : testedAt test size from piece ≡ true → (size ≤ length piece - from) × (test (take size (drop from piece)) ≡ true)
+  tested-long e = by (ltb (length piece - from) size) refl e
     where
-      by : (t : Bool) → ltb (length piece - from) minorLength ≡ t → cond t false (passes h (take minorLength (drop from piece))) ≡ true
-          → (minorLength ≤ length piece - from) × (passes h (take minorLength (drop from piece)) ≡ true)
+      by : (t : Bool) → ltb (length piece - from) size ≡ t → cond t false (test (take size (drop from piece))) ≡ true
+          → (size ≤ length piece - from) × (test (take size (drop from piece)) ≡ true)
       by true q z = not-both false z refl
-      by false q z = (ltb-false (length piece - from) minorLength q, z)
+      by false q z = (ltb-false (length piece - from) size q, z)

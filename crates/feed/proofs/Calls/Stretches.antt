@@ -99,22 +99,22 @@ module _ (n left : ℕ) (x : Ahead n left) (some : 0 < left) where
 
 -- ---- the inner loop
 
-pub record Stretching (piece b jets mapped : List ℕ) (count : ℕ) (hall₀ : Hall) (used₀ written₀ : ℕ) (out₀ : List ℕ) (hall : Hall)
+pub record Stretching (piece b jets turned-jets : List ℕ) (count : ℕ) (hall₀ : Hall) (used₀ written₀ : ℕ) (out₀ : List ℕ) (hall : Hall)
     (used written : ℕ) (out : List ℕ) (left : ℕ) : Type 0 where
   -- what the outer loop keeps is kept
   pub loops : (m : Monitor) (outs : List ℕ) → Loops m piece outs hall₀ b count used₀ written₀ out₀
       → Loops m piece outs hall b count used written out
-  pub calmed : Calmed hall jets mapped count written out
+  pub calmed : Calmed hall jets turned-jets count written out
   pub on : written₀ ≤ written
   pub ahead : Ahead (hall .n) left
   pub fed : used + minorLength * left ≤ length piece
   pub room : written + reportLength * left + outboxNeeded ≤ length out
 
-pub stretch-starts : (piece b jets mapped : List ℕ) (count : ℕ) (hall : Hall) (used written : ℕ) (out : List ℕ) (left : ℕ)
-    → Calmed hall jets mapped count written out → used ≤ length piece → outboxNeeded ≤ length out - written
+pub stretch-starts : (piece b jets turned-jets : List ℕ) (count : ℕ) (hall : Hall) (used written : ℕ) (out : List ℕ) (left : ℕ)
+    → Calmed hall jets turned-jets count written out → used ≤ length piece → outboxNeeded ≤ length out - written
     → left ≡ stretch (hall .n) (length piece - used) (length out - written)
-    → Stretching piece b jets mapped count hall used written out hall used written out left
-stretch-starts piece b jets mapped count hall used written out left c within full e =
+    → Stretching piece b jets turned-jets count hall used written out hall used written out left
+stretch-starts piece b jets turned-jets count hall used written out left c within full e =
     let fits = stretch-fits (hall .n) (length piece - used) (length out - written) full in
     rw e (record {
       loops = λ m outs l. l;
@@ -126,11 +126,11 @@ stretch-starts piece b jets mapped count hall used written out left c within ful
     })
 
 -- no more of them
-pub stretch-stops : (piece b jets mapped : List ℕ) (count : ℕ) (hall₀ : Hall) (used₀ written₀ : ℕ) (out₀ : List ℕ) (hall : Hall)
+pub stretch-stops : (piece b jets turned-jets : List ℕ) (count : ℕ) (hall₀ : Hall) (used₀ written₀ : ℕ) (out₀ : List ℕ) (hall : Hall)
     (used written : ℕ) (out : List ℕ) (left : ℕ)
-    → Stretching piece b jets mapped count hall₀ used₀ written₀ out₀ hall used written out left
-    → Stretching piece b jets mapped count hall₀ used₀ written₀ out₀ hall used written out 0
-stretch-stops piece b jets mapped count hall₀ used₀ written₀ out₀ hall used written out left x = record {
+    → Stretching piece b jets turned-jets count hall₀ used₀ written₀ out₀ hall used written out left
+    → Stretching piece b jets turned-jets count hall₀ used₀ written₀ out₀ hall used written out 0
+stretch-stops piece b jets turned-jets count hall₀ used₀ written₀ out₀ hall used written out left x = record {
   loops = x .loops;
   calmed = x .calmed;
   on = x .on;
@@ -139,14 +139,13 @@ stretch-stops piece b jets mapped count hall₀ used₀ written₀ out₀ hall u
   room = omega (arith, x .room);
 }
 
-module _ (piece b jets mapped : List ℕ) (count : ℕ) (hall₀ : Hall) (used₀ written₀ : ℕ) (out₀ : List ℕ) (hall : Hall) (used written : ℕ)
-    (out : List ℕ) (left : ℕ) (x : Stretching piece b jets mapped count hall₀ used₀ written₀ out₀ hall used written out left)
-    (some : 0 < left) where
+module _ (piece b jets turned-jets : List ℕ) (count : ℕ) (hall₀ : Hall) (used₀ written₀ : ℕ) (out₀ : List ℕ) (hall : Hall) (used written : ℕ)
+    (out : List ℕ) (left : ℕ) (x : Stretching piece b jets turned-jets count hall₀ used₀ written₀ out₀ hall used written out left) where
   pub stretch-full : outboxNeeded ≤ length out - written
   stretch-full = omega (arith, x .room)
 
   -- one record more
-  module _ (pass : passesAt hall used piece ≡ true) (o : List ℕ)
+  module _ (some : 0 < left) (pass : passesAt hall used piece ≡ true) (o : List ℕ)
       (e : o ≡ toldAgain (hall .n + 1)
       (take (length out - (written - reportLength)) (drop (written - reportLength) out))) where
     abbrev after : List ℕ
@@ -154,11 +153,11 @@ module _ (piece b jets mapped : List ℕ) (count : ℕ) (hall₀ : Hall) (used�
 
     goes : (m : Monitor) (outs : List ℕ) → Loops m piece outs hall b count used written out
         → Loops m piece outs (onward hall) b count (used + minorLength) (written + reportLength) after
-        × Calmed (onward hall) jets mapped count (written + reportLength) after
-    goes m outs s = calm-goes m piece outs hall b jets mapped count used written out s (x .calmed) stretch-full pass o e
+        × Calmed (onward hall) jets turned-jets count (written + reportLength) after
+    goes m outs s = calm-goes m piece outs hall b jets turned-jets count used written out s (x .calmed) stretch-full pass o e
 
     pub stretch-goes : (m : Monitor) (outs : List ℕ) → Loops m piece outs hall₀ b count used₀ written₀ out₀
-        → Stretching piece b jets mapped count hall₀ used₀ written₀ out₀ (onward hall) (used + minorLength) (written + reportLength) after
+        → Stretching piece b jets turned-jets count hall₀ used₀ written₀ out₀ (onward hall) (used + minorLength) (written + reportLength) after
         (left - 1)
     stretch-goes m outs l =
         let now = x .loops m outs l in

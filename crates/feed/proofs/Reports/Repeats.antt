@@ -1,4 +1,5 @@
--- The first k bytes of twice as many, written again into the second half, one after the other. Assumes nothing.
+-- The first k bytes of twice as many, written again into the second half, one after the other; and what is then written there. Assumes
+-- nothing.
 use mathlib.Core.Path.{_≡_, sym, ap, ap₂, _∙_}
 use mathlib.Core.List.{List, [], _∷_, _++_, append-assoc, append-nil}
 use Prim.Native.Nat.{ℕ, suc, _+_, _<_}
@@ -7,10 +8,10 @@ use native.Mathlib.Numerals.{add-one}
 use native.Mathlib.Omega.{arith}
 use borrow.Rule.Slice.PartMut.{putMid}
 use lib.ListN.{length, getD, set, take, drop, length-append, drop-of-length-le, take-append-drop, List·getD-append}
-use lib.Seq.{take-suc, set-at, getD-take, drop-cons, drop-drop, length-take-le, take-append-add, drop-append-add}
+use lib.Seq.{take-suc, set-at, getD-take, drop-cons, drop-drop, length-take-le, take-take, take-append-add, drop-append-add}
 use Rattle.feed.specs.Size.{countAt, countLength, stringsFrom, reportLength}
 use Rattle.feed.specs.Bytes.{inFour}
-use Rattle.feed.specs.Inside.Calm.{renumbered}
+use Rattle.feed.specs.Inside.Calm.{renumbered, toldBehind}
 
 module _ (l : List ℕ) (k : ℕ) (long : length l ≡ k + k) where
   front-long : length (take k l) ≡ k
@@ -66,3 +67,14 @@ module _ (r y : List ℕ) (n : ℕ) (long : length r ≡ reportLength) (e : y �
       ap₂ (λ (a b : List ℕ). a ++ (y ++ b)) before behind
       ∙ ap (λ (t : List ℕ). (r ++ take countAt r) ++ (t ++ drop stringsFrom r)) e
       ∙ append-assoc r (take countAt r) (inFour n ++ drop stringsFrom r)
+
+-- ---- two reports lent of an outbox: the second is made of the first
+
+pub told-behind : (change : List ℕ → List ℕ) (out y : List ℕ)
+    → y ≡ take reportLength (take (reportLength + reportLength) out) ++ change (take reportLength (take (reportLength + reportLength) out))
+    → y ++ drop (reportLength + reportLength) out ≡ toldBehind change out
+told-behind change out y e =
+    let both = reportLength + reportLength in
+    let front : take reportLength (take both out) ≡ take reportLength out = take-take reportLength both out (omega arith) in
+    ap (λ (l : List ℕ). l ++ drop both out) (e ∙ ap (λ (r : List ℕ). r ++ change r) front)
+    ∙ append-assoc (take reportLength out) (change (take reportLength out)) (drop both out)

@@ -1,5 +1,7 @@
--- Calm records: bytes that change nothing but the number, and their reports. That this is what a call does is proved (proofs/Calls/Calms).
+-- Calm records: bytes that change nothing but the number, and in a major cycle the good copies and the banks, and their reports. That this
+-- is what a call does is proved (proofs/Calls: Calms, CalmMajors, CalmRuns, Stretches).
 -- Assumes nothing.
+use mathlib.Core.Path.{_≡_}
 use mathlib.Core.Bool.{Bool, true, false, cond, not, _&&_}
 use mathlib.Core.List.{List, _++_}
 use Prim.Native.Nat.{ℕ, _+_, _-_, _*_, _/_, _%_, _^_, _<_}
@@ -41,12 +43,16 @@ Words words = (s : ℕ) → s < stringCount → getD words s 0 < 2 ^ wordBits
 unfoldable pub turnedWords : List ℕ → List ℕ
 turnedWords words = each stringCount (λ s x. turned x) 0 words
 
+-- what is carried on of a hall's jets with the bytes in that order
+abbrev pub TurnedJets : Hall → List ℕ → Type 0
+TurnedJets h turned = (turned ≡ turnedWords (mappedWords (h .masks))) × Words (mappedWords (h .masks))
+
 -- calm records can follow a taken one that left nothing in the store and nothing under way
 unfoldable pub calmAfter : Answer → ℕ → Hall → Calm
 calmAfter a count h =
     cond (isTaken a && (eqb count 0 && allCalm stringCount (h .strings)))
-    (record { yes = true; jets = mappedWords (h .masks); mapped = turnedWords (mappedWords (h .masks)) })
-    (record { yes = false; jets = replicate stringCount 0; mapped = replicate stringCount 0 })
+    (record { yes = true; jets = mappedWords (h .masks); turned = turnedWords (mappedWords (h .masks)) })
+    (record { yes = false; jets = replicate stringCount 0; turned = replicate stringCount 0 })
 
 -- the bytes are a good minor record of the next cycle that finds nothing
 unfoldable pub passes : Hall → List ℕ → Bool
@@ -54,9 +60,13 @@ passes h l =
     eqb (getD l 0 0) markByte
     && (eqb (getD l 1 0) minorMark && (follows (h .n) (two l wireAt) false && (allQuiet (minorOf l) h && goodMinor l)))
 
--- the piece has such a record from place `from` on
+-- the piece has bytes of that number from place `from` on that pass a test
+abbrev pub testedAt : (List ℕ → Bool) → ℕ → ℕ → List ℕ → Bool
+testedAt test size from piece = cond (ltb (length piece - from) size) false (test (take size (drop from piece)))
+
+-- it has such a record there
 abbrev pub passesAt : Hall → ℕ → List ℕ → Bool
-passesAt h from piece = cond (ltb (length piece - from) minorLength) false (passes h (take minorLength (drop from piece)))
+passesAt h from piece = testedAt (passes h) minorLength from piece
 
 -- the least of two
 abbrev pub least : ℕ → ℕ → ℕ
@@ -76,11 +86,15 @@ stretch n fed room =
 unfoldable pub renumbered : ℕ → List ℕ → List ℕ
 renumbered n report = take countAt report ++ (inFour n ++ drop stringsFrom report)
 
--- an outbox that begins with a report: behind it the same one with another number
-abbrev pub toldAgain : ℕ → List ℕ → List ℕ
-toldAgain n out =
+-- an outbox that begins with a report: behind it what is made of that
+abbrev pub toldBehind : (List ℕ → List ℕ) → List ℕ → List ℕ
+toldBehind change out =
     let report = take reportLength out in
-    report ++ (renumbered n report ++ drop (reportLength + reportLength) out)
+    report ++ (change report ++ drop (reportLength + reportLength) out)
+
+-- the same one with another number
+abbrev pub toldAgain : ℕ → List ℕ → List ℕ
+toldAgain n out = toldBehind (renumbered n) out
 
 -- ---- major records, by their bytes
 
@@ -112,7 +126,7 @@ noneAsked l = every (quantitiesFrom - requestsFrom) (λ i. eqb (getD l (requests
 abbrev pub noneFoundIn : Hall → List ℕ → ℕ → Bool
 noneFoundIn h l s = noneFound l (getD (mappedWords (h .masks)) s 0) ((stringOf h s) .on) ((stringOf h s) .close) s
 
--- no sample finds anything
+-- no string finds anything in any step but what its temperatures say
 abbrev pub allStill : Hall → List ℕ → Bool
 allStill h l = allQuiet (minorOf l) h && every stringCount (noneFoundIn h l)
 
@@ -124,8 +138,9 @@ majorPasses h l =
     && (follows (h .n) (two l wireAt) true
     && (noneAsked l && (allStill h l && (not (any stringCount (leakAt l (mappedWords (h .masks)))) && goodMajor l)))))
 
+-- the piece has such a record from place `from` on
 abbrev pub majorPassesAt : Hall → ℕ → List ℕ → Bool
-majorPassesAt h from piece = cond (ltb (length piece - from) majorLength) false (majorPasses h (take majorLength (drop from piece)))
+majorPassesAt h from piece = testedAt (majorPasses h) majorLength from piece
 
 -- the hall that it leaves
 abbrev pub keptAfter : Hall → ℕ → List ℕ → Hall
@@ -137,9 +152,7 @@ rebanked banks report = take balanceAt report ++ banksBytes banks
 
 -- an outbox that begins with a report: behind it the same one with the number and the banks of a hall
 abbrev pub toldKept : Hall → List ℕ → List ℕ
-toldKept h out =
-    let report = take reportLength out in
-    report ++ (rebanked (h .banks) (renumbered (h .n) report) ++ drop (reportLength + reportLength) out)
+toldKept h out = toldBehind (λ report. rebanked (h .banks) (renumbered (h .n) report)) out
 
 -- what is left, if it passes and if not
 abbrev pub keptBy : Bool → Hall → ℕ → List ℕ → Kept

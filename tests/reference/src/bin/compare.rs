@@ -14,6 +14,7 @@ use reference::random::Random;
 use reference::report::REPORT_LENGTH;
 use reference::score::{Program, Score};
 use reference::script;
+use reference::slips;
 use reference::tally::Tally;
 use std::process::ExitCode;
 use std::time::{Duration, Instant};
@@ -21,6 +22,8 @@ use std::time::{Duration, Instant};
 const LIMIT: Duration = Duration::from_secs(30);
 const FEEDS: u64 = 320;
 const BYTES: u64 = 20_000_000;
+const CALM_FEEDS: u64 = 60;
+const CALM_BYTES: usize = 60_000;
 const HALLS: u64 = 20_000;
 const CALL_INPUTS: u64 = 500;
 const NOISES: u64 = 24;
@@ -37,12 +40,13 @@ fn main() -> ExitCode {
     let begin = Instant::now();
     let mut score = Score::default();
     let (tally, of_feeds) = feeds(watches, asked.feeds, asked.bytes, &mut score);
+    let calm = calm_feeds(watches, &mut score);
     let bad_inputs = bad_inputs(watches, &mut score);
     let answers = scripts(calls, &mut score);
     let (cases, of_halls) = foreign_halls(calls, asked.halls, &mut score);
     let seconds = begin.elapsed().as_secs_f64();
     print!("FEEDS\n{of_feeds}HALLS\n{of_halls}");
-    println!("{tally:?}; {bad_inputs} inputs of noise or bad masks; {answers}; {cases:?}; {seconds:.1} s");
+    println!("{tally:?}; calm nights: {calm:?}; {bad_inputs} inputs of noise or bad masks; {answers}; {cases:?}; {seconds:.1} s");
     watches.iter().chain([&*calls]).for_each(|program| println!("{program}"));
     score.end()
 }
@@ -75,7 +79,35 @@ impl Asked {
     }
 }
 
-/// Seeded nights, each whole from a file or a pipe, every third also in pieces.
+/// A night whole from a file or a pipe, every third also in pieces.
+fn night(watches: &mut [Program], name: &str, number: u64, bytes: &[u8], reports: &[Vec<u8>], score: &mut Score) {
+    for watch in &mut *watches {
+        if number % 3 == 0 {
+            let pieces = cut(bytes, &mut Random(!number));
+            let run = |watch: &str| run_pieces(watch, pieces, LIMIT);
+            watch.check(score, &format!("{name}, in pieces"), ("report", reports), run);
+        }
+        let run = |watch: &str| match number % 2 {
+            0 => run_file(watch, bytes, LIMIT),
+            _ => run_pieces(watch, vec![bytes.to_vec()], LIMIT),
+        };
+        watch.check(score, &format!("{name}, whole"), ("report", reports), run);
+    }
+}
+
+/// Calm nights, in which most records find nothing.
+fn calm_feeds(watches: &mut [Program], score: &mut Score) -> Tally {
+    let mut tally = Tally::default();
+    for number in 0..CALM_FEEDS {
+        let (bytes, damaged) = slips::input(number, CALM_BYTES);
+        let reports = reports(&bytes);
+        tally.add(bytes.len(), damaged, &reports);
+        night(watches, &format!("calm feed {number}"), number, &bytes, &reports, score);
+    }
+    tally
+}
+
+/// Seeded lively nights.
 fn feeds(watches: &mut [Program], number: u64, total: u64, score: &mut Score) -> (Tally, Counted) {
     let (mut tally, mut counted) = (Tally::default(), Counted::of_feeds());
     let share = (total / number) as usize + 1;
@@ -85,19 +117,7 @@ fn feeds(watches: &mut [Program], number: u64, total: u64, score: &mut Score) ->
         let reports = reports(&bytes);
         tally.add(bytes.len(), damaged, &reports);
         counted.add_feed(&bytes);
-        let name = format!("feed of seed {seed}, size {size}");
-        for watch in &mut *watches {
-            if seed % 3 == 0 {
-                let pieces = cut(&bytes, &mut Random(!seed));
-                let run = |watch: &str| run_pieces(watch, pieces, LIMIT);
-                watch.check(score, &format!("{name}, in pieces"), ("report", &reports), run);
-            }
-            let run = |watch: &str| match seed % 2 {
-                0 => run_file(watch, &bytes, LIMIT),
-                _ => run_pieces(watch, vec![bytes.clone()], LIMIT),
-            };
-            watch.check(score, &format!("{name}, whole"), ("report", &reports), run);
-        }
+        night(watches, &format!("feed of seed {seed}, size {size}"), seed, &bytes, &reports, score);
     }
     if number >= FEEDS && total >= BYTES {
         score.check("cases of the feeds", counted.each_met(LEAST_MET));

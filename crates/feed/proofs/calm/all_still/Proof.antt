@@ -66,7 +66,7 @@ returns c =
     let still = at-loop .loop .inv .2 ∙ ap (λ n. every n (stillAt l (a .t2) (a .hall .strings))) e in
     ap₂ (λ (x y : Bool). x && y)
     (ap (λ (b : Bool). eqb (getD l pathAt 0) 0 && b) quiet
-    ∙ all-quiet-told l (a .t3) (a .hall) (start .pre .1 .1) (start .pre .1 .2) (λ s b. at-loop .loop .inv .3 s (omega arith)))
+    ∙ all-quiet-told l (a .t3) (a .hall) (start .pre .1 .1 .0) (start .pre .1 .1 .1) (λ s b. at-loop .loop .inv .3 s (omega arith)))
     (still ∙ all-still-told l (a .t2) (a .hall) (start .pre .1 .0) (start .pre .0 .1))
 
 pub all-still-spec : {M : Type 1} → statement M

@@ -2,27 +2,28 @@
 use borrow.Author.Needs.{needs}
 use mathlib.Core.Path.{_≡_, refl, sym, ap, _∙_}
 use mathlib.Core.Bool.{Bool, true, false}
-use mathlib.Core.List.{List, _++_, append-assoc}
 use Prim.Native.Nat.{ℕ, _+_, _-_, _<_}
 use native.Mathlib.Nat.{add-sub-cancel-left}
 use native.Mathlib.Omega.{arith}
 use lib.ListN.{take, drop}
-use lib.Seq.{length-take-le, take-take}
+use lib.Seq.{length-take-le}
 use Rattle.bits.proofs.Yes.{not-true, not-no}
 use Rattle.cycle.specs.Size.{lastCount}
 use Rattle.cycle.specs.Calm.{keptAll}
 use Rattle.cycle.specs.declared.hall.Hall.{Hall}
 use Rattle.feed.specs.Size.{majorLength, reportLength}
 use Rattle.feed.specs.Values.{quantitiesOf}
-use Rattle.feed.specs.Inside.Calm.{majorPassesAt, renumbered, rebanked}
-use Rattle.feed.proofs.Calls.CalmMajors.{major-below, major-short, major-part}
+use Rattle.feed.specs.Inside.Calm.{majorPasses, majorPassesAt, renumbered, rebanked}
+use Rattle.feed.proofs.Reports.Repeats.{told-behind}
+use Rattle.feed.proofs.Calls.Calms.{tested-short, tested-part}
+use Rattle.feed.proofs.Calls.CalmMajors.{major-below}
 use Rattle.feed.proofs.calm.calm_major.Statement.{statement}
 use Rattle.feed.proofs.calm.calm_major.Tie as tie
 
 returns : tie.Need-returns
 returns c =
     let a = c .before .before .before .args in
-    rw (major-short (a .hall) (a .from) (a .piece .now) (c .if1 .taken)) (refl, refl)
+    rw (tested-short (majorPasses (a .hall)) majorLength (a .from) (a .piece .now) (c .if1 .taken)) (refl, refl)
 
 -- what the test of the record says
 module _ (c : tie.After-major-passes) where
@@ -31,7 +32,8 @@ module _ (c : tie.After-major-passes) where
 
   told : (b : Bool) → c .major-passes .result ≡ b → majorPassesAt (start .args .hall) (start .args .from) (start .args .piece .now) ≡ b
   told b e =
-      major-part (start .args .hall) (start .args .from) (start .args .piece .now) (omega (arith, c .before .before .if1 .left)) b
+      tested-part (majorPasses (start .args .hall)) majorLength (start .args .from) (start .args .piece .now)
+      (omega (arith, c .before .before .if1 .left)) b
       (sym e ∙ c .major-passes .ensures)
 
 returns-2 : tie.Need-returns-2
@@ -74,12 +76,9 @@ returns-3 c =
     let k = c .before .before .before .before .before .before in
     let t = tested k in
     let a = start t .args in
-    let out = a .out .now in
-    let both = reportLength + reportLength in
     let pass = told t true (passes k) in
     let size : a .from + majorLength - a .from ≡ majorLength = add-sub-cancel-left (a .from) majorLength in
     let whole = kept k ∙ ap (λ (n : ℕ). keptAll (quantitiesOf (take n (drop (a .from) (a .piece .now)))) (a .hall)) size in
-    let front : take reportLength (take both out) ≡ take reportLength out = take-take reportLength both out (omega arith) in
     let banks = k .kept-all .result .banks in
     let n = k .kept-all .result .n + 1 in
     rw pass (
@@ -87,9 +86,7 @@ returns-3 c =
         yes = true;
         hall = record { n = h .n + 1; masks = h .masks; strings = h .strings; banks = h .banks };
       }) whole,
-      ap (λ (l : List ℕ). l ++ drop both out)
-          (c .before .before .tell-banks .ensures ∙ ap (λ (r : List ℕ). r ++ rebanked banks (renumbered n r)) front)
-          ∙ append-assoc (take reportLength out) (rebanked banks (renumbered n (take reportLength out))) (drop both out),
+      told-behind (λ r. rebanked banks (renumbered n r)) (a .out .now) _ (c .before .before .tell-banks .ensures),
     )
 
 pub calm-major-spec : {M : Type 1} → statement M

@@ -1,16 +1,15 @@
 -- `feed::calm::calm_turn` meets its contract. Assumes nothing.
 use borrow.Author.Needs.{needs}
-use mathlib.Core.Path.{_≡_, refl, sym, ap, _∙_}
+use mathlib.Core.Path.{_≡_, refl, sym, _∙_}
 use mathlib.Core.Bool.{Bool, true, false}
-use mathlib.Core.List.{List, _++_, append-assoc}
-use Prim.Native.Nat.{ℕ, _+_, _-_}
+use Prim.Native.Nat.{_+_, _-_}
 use native.Mathlib.Omega.{arith}
-use lib.ListN.{take, drop}
-use lib.Seq.{length-take-le, take-take}
+use lib.Seq.{length-take-le}
 use Rattle.bits.proofs.Yes.{not-true, not-no}
-use Rattle.feed.specs.Size.{reportLength}
+use Rattle.feed.specs.Size.{minorLength, reportLength}
 use Rattle.feed.specs.Inside.Calm.{passes, passesAt, renumbered}
-use Rattle.feed.proofs.Calls.Calms.{passes-part}
+use Rattle.feed.proofs.Reports.Repeats.{told-behind}
+use Rattle.feed.proofs.Calls.Calms.{tested-part}
 use Rattle.feed.proofs.calm.calm_turn.Statement.{statement}
 use Rattle.feed.proofs.calm.calm_turn.Tie as tie
 
@@ -21,7 +20,7 @@ module _ (c : tie.After-passes) where
 
   told : (b : Bool) → c .passes .result ≡ b → passesAt (start .args .hall) (start .args .from) (start .args .piece .now) ≡ b
   told b e =
-      passes-part (start .args .hall) (start .args .from) (start .args .piece .now) (omega (arith, start .pre .0 .0)) b
+      tested-part (passes (start .args .hall)) minorLength (start .args .from) (start .args .piece .now) (omega (arith, start .pre .0 .0)) b
       (sym e ∙ c .passes .ensures)
 
 returns : tie.Need-returns
@@ -41,16 +40,8 @@ returns-2 : tie.Need-returns-2
 returns-2 c =
     let at-passes = c .before .before .before .before .before .before in
     let a = start at-passes .args in
-    let out = a .out .now in
-    let both = reportLength + reportLength in
     let t = told at-passes true (not-no (at-passes .passes .result) (c .before .before .before .before .before .if1 .left)) in
-    let front : take reportLength (take both out) ≡ take reportLength out = take-take reportLength both out (omega arith) in
-    rw t (
-      refl,
-      ap (λ (l : List ℕ). l ++ drop both out)
-          (c .before .before .tell-again .ensures ∙ ap (λ (r : List ℕ). r ++ renumbered (a .hall .n + 1) r) front)
-          ∙ append-assoc (take reportLength out) (renumbered (a .hall .n + 1) (take reportLength out)) (drop both out),
-    )
+    rw t (refl, told-behind (renumbered (a .hall .n + 1)) (a .out .now) _ (c .before .before .tell-again .ensures))
 
 pub calm-turn-spec : {M : Type 1} → statement M
 calm-turn-spec =

@@ -12,6 +12,7 @@ use lib.Seq.{length-take-le}
 use Rattle.bits.proofs.Yes.{not-both, not-true, not-no}
 use Rattle.feed.specs.Size.{storeLength, mostHeld, reportLength, outboxNeeded}
 use Rattle.feed.specs.Inside.Calm.{passesAt}
+use Rattle.cycle.specs.declared.hall.Hall.{Hall}
 use Rattle.feed.specs.Call.{runs}
 use Rattle.feed.specs.declared.calm.Calm.{Calm}
 use Rattle.feed.proofs.Reading.Found.{rest-whole}
@@ -19,23 +20,23 @@ use Rattle.feed.proofs.Calls.Calling.{InOrder, put-in-order, held-short
 use Rattle.feed.proofs.Calls.Running.{monitorAt, Loops, loop-starts, out-long, loop-ends, loop-leaves, loop-goes, no-room, put-rest}
 use Rattle.feed.proofs.Calls.Running.{runs-start}
 use Rattle.feed.proofs.Calls.CalmRuns.{Calmed, part-kept, calm-room, major-there, major-goes, calm-left}
-use Rattle.feed.proofs.Calls.Stretches.{Stretching, ahead-below, ahead-minor, stretch-starts, stretch-stops, stretch-goes}
+use Rattle.feed.proofs.Calls.Stretches.{Stretching, ahead-below, ahead-minor, stretch-starts, stretch-stops, stretch-full, stretch-goes}
 use Rattle.feed.proofs.call.Monitor.run.Statement.{statement}
 use Rattle.feed.proofs.call.Monitor.run.Tie as tie
 
 abbrev Inv-loop2 : tie.InvT-loop2
-Inv-loop2 piece out₀ hall₀ b count used₀ written₀ calm jets mapped left₀ out hall used written left =
-    Stretching piece b jets mapped count hall₀ used₀ written₀ out₀ hall used written out left
+Inv-loop2 piece out₀ hall₀ b count used₀ written₀ calm jets turned-jets left₀ out hall used written left =
+    Stretching piece b jets turned-jets count hall₀ used₀ written₀ out₀ hall used written out left
 
 abbrev μ-loop2 : tie.MeasureT-loop2
-μ-loop2 piece out₀ hall₀ b count used₀ written₀ calm jets mapped left₀ out hall used written left = left
+μ-loop2 piece out₀ hall₀ b count used₀ written₀ calm jets turned-jets left₀ out hall used written left = left
 
 abbrev Inv-loop : tie.InvT-loop
-Inv-loop piece out₀ hall₀ b₀ count₀ used₀ written₀ calm₀ jets₀ mapped₀ out hall b count used written calm jets mapped =
-    Loops (monitorAt hall₀ b₀ count₀) piece out₀ hall b count used written out × (calm ≡ true → Calmed hall jets mapped count written out)
+Inv-loop piece out₀ hall₀ b₀ count₀ used₀ written₀ calm₀ jets₀ turned₀ out hall b count used written calm jets turned-jets =
+    Loops (monitorAt hall₀ b₀ count₀) piece out₀ hall b count used written out × (calm ≡ true → Calmed hall jets turned-jets count written out)
 
 abbrev μ-loop : tie.MeasureT-loop
-μ-loop piece out₀ hall₀ b₀ count₀ used₀ written₀ calm₀ jets₀ mapped₀ out hall b count used written calm jets mapped = length out₀ - written
+μ-loop piece out₀ hall₀ b₀ count₀ used₀ written₀ calm₀ jets₀ turned₀ out hall b count used written calm jets turned-jets = length out₀ - written
 
 -- ---- the store put in order
 
@@ -61,6 +62,12 @@ ordered c =
     put-in-order (entry c .args .self .count) (entry c .args .self .held) (kept c) (c .clear .last .0) (held-long (entry c))
     (c .before .before .held-count .ensures)
     (c .clear .ensures)
+
+-- what the loop keeps, from the start on
+abbrev LoopsAt : tie.After-clear Inv-loop2 μ-loop2 Inv-loop μ-loop → Hall → List ℕ → ℕ → ℕ → ℕ → List ℕ → Type 0
+LoopsAt c hall b count used written out =
+    Loops (monitorAt (entry c .args .self .hall) (cleared c) (kept c)) (entry c .args .piece .now) (entry c .args .out .now) hall b count
+    used written out
 
 -- the loop's run is that of the monitor handed in
 same-run : (c : tie.After-clear Inv-loop2 μ-loop2 Inv-loop μ-loop)
@@ -119,14 +126,15 @@ abbrev outer : tie.At-loop2 Inv-loop2 μ-loop2 Inv-loop μ-loop → tie.At-loop 
 outer c = c .before .before .before .before
 
 here : (c : tie.At-loop2 Inv-loop2 μ-loop2 Inv-loop μ-loop)
-    → Loops (monitorAt (entry (outer c .before .before) .args .self .hall) (cleared (outer c .before .before))
-    (kept (outer c .before .before))) (entry (outer c .before .before) .args .piece .now) (entry (outer c .before .before) .args .out .now)
-    (c .loop2 .hall) (outer c .loop .b) (outer c .loop .count) (c .loop2 .used) (c .loop2 .written) (c .loop2 .out)
+    → LoopsAt (outer c .before .before) (c .loop2 .hall) (outer c .loop .b) (outer c .loop .count) (c .loop2 .used) (c .loop2 .written) (c .loop2 .out)
 here c = c .loop2 .inv .loops _ _ (outer c .loop .inv .0)
 
-last-within : (c : tie.In-loop2 Inv-loop2 μ-loop2 Inv-loop μ-loop)
-    → c .before .loop2 .written - reportLength ≤ length (c .before .loop2 .out)
-last-within c = omega (arith, c .before .loop2 .inv .room)
+-- the report before lies within the outbox, and there is room for one more
+last-within : (c : tie.At-loop2 Inv-loop2 μ-loop2 Inv-loop μ-loop) → c .loop2 .written - reportLength ≤ length (c .loop2 .out)
+last-within c = omega (arith, c .loop2 .inv .room)
+
+room-here : (c : tie.At-loop2 Inv-loop2 μ-loop2 Inv-loop μ-loop) → outboxNeeded ≤ length (c .loop2 .out) - c .loop2 .written
+room-here c = stretch-full _ _ _ _ _ _ _ _ _ _ _ _ _ _ (c .loop2 .inv)
 
 calm-turn-requires : tie.Need-calm-turn-requires Inv-loop2 μ-loop2 Inv-loop μ-loop
 calm-turn-requires c κs =
@@ -135,10 +143,10 @@ calm-turn-requires c κs =
     let x = l .loop2 .inv in (
       (
         omega (arith, x .fed, some),
-        calm-room _ _ _ _ _ _ _ _ _ _ _ (here l) (x .calmed) (omega (arith, x .room)),
+        calm-room _ _ _ _ _ _ _ _ _ _ _ (here l) (x .calmed) (room-here l),
       ),
       (
-        (x .calmed .turned, x .calmed .words),
+        x .calmed .turned,
         (
           ahead-below (l .loop2 .hall .n) (l .loop2 .left) (x .ahead) some,
           ahead-minor (l .loop2 .hall .n) (l .loop2 .left) (x .ahead) some,
@@ -200,25 +208,18 @@ loop2-again-2 c =
     let l = at-turn .before .before .before in
     let o = at-turn .calm-turn .last .1 .1 .1 .1 .0 in
     let fails = sym (at-turn .calm-turn .ensures .0) ∙ c .if3 .left in
-    rw (part-kept (l .loop2 .written - reportLength) (l .loop2 .out) o (last-within (at-turn .before .before))
+    rw (part-kept (l .loop2 .written - reportLength) (l .loop2 .out) o (last-within l)
     (rw fails at (at-turn .calm-turn .ensures .1)))
     (stretch-stops _ _ _ _ _ _ _ _ _ _ _ _ _ _ (l .loop2 .inv))
 
 -- ---- a calm major record
 
-major-within : (c : tie.After-loop2 Inv-loop2 μ-loop2 Inv-loop μ-loop)
-    → c .before .loop2 .written - reportLength ≤ length (c .before .loop2 .out)
-major-within c = omega (arith, c .before .loop2 .inv .room)
-
-major-room : (c : tie.At-loop2 Inv-loop2 μ-loop2 Inv-loop μ-loop) → outboxNeeded ≤ length (c .loop2 .out) - c .loop2 .written
-major-room c = omega (arith, c .loop2 .inv .room)
-
 calm-major-requires : tie.Need-calm-major-requires Inv-loop2 μ-loop2 Inv-loop μ-loop
 calm-major-requires c κs =
     let l = c .before .before in
     let x = l .loop2 .inv in (
-      (here l .within, calm-room _ _ _ _ _ _ _ _ _ _ _ (here l) (x .calmed) (major-room l)),
-      (x .calmed .plain, x .calmed .turned, x .calmed .words),
+      (here l .within, calm-room _ _ _ _ _ _ _ _ _ _ _ (here l) (x .calmed) (room-here l)),
+      (x .calmed .plain, x .calmed .turned),
     )
 
 -- where it has passed
@@ -233,7 +234,7 @@ major-used : tie.Need-add-used-2 Inv-loop2 μ-loop2 Inv-loop μ-loop
 major-used c =
     let at-turn = kept-turn (c .before) in
     let l = behind (c .before) in
-    let there = major-there _ _ _ _ _ _ _ _ _ _ _ (here l) (l .loop2 .inv .calmed) (major-room l) (at-turn .calm-major .result)
+    let there = major-there _ _ _ _ _ _ _ _ _ _ _ (here l) (l .loop2 .inv .calmed) (room-here l) (at-turn .calm-major .result)
     (at-turn .calm-major .ensures .0) (c .before .if4 .taken) in
     omega (arith, there, here l .within, entry (outer l .before .before) .good)
 
@@ -251,7 +252,7 @@ major-again : tie.Need-loop-again Inv-loop2 μ-loop2 Inv-loop μ-loop
 major-again c =
     let at-turn = kept-turn (c .before) in
     let l = behind (c .before) in
-    let g = major-goes _ _ _ _ _ _ _ _ _ _ _ (here l) (l .loop2 .inv .calmed) (major-room l) (at-turn .calm-major .result)
+    let g = major-goes _ _ _ _ _ _ _ _ _ _ _ (here l) (l .loop2 .inv .calmed) (room-here l) (at-turn .calm-major .result)
     (at-turn .calm-major .ensures .0) (c .before .if4 .taken) (at-turn .calm-major .last .1 .1 .1 .1 .1 .0)
     (at-turn .calm-major .ensures .1) in
     (g .0, λ y. g .1)
@@ -260,10 +261,8 @@ major-again c =
 
 -- behind the calm ones, if there are any: the loop keeps what it kept, and there is room for a report
 came-here : (c : tie.Joined2 Inv-loop2 μ-loop2 Inv-loop μ-loop)
-    → Loops (monitorAt (entry (c .before .before .before .before) .args .self .hall) (cleared (c .before .before .before .before))
-    (kept (c .before .before .before .before))) (entry (c .before .before .before .before) .args .piece .now)
-    (entry (c .before .before .before .before) .args .out .now) (c .if2 .hall) (c .before .before .loop .b) (c .before .before .loop .count)
-    (c .if2 .used) (c .if2 .written) (c .if2 .out)
+    → LoopsAt (c .before .before .before .before) (c .if2 .hall) (c .before .before .loop .b) (c .before .before .loop .count) (c .if2 .used)
+    (c .if2 .written) (c .if2 .out)
     × (outboxNeeded ≤ length (c .if2 .out) - c .if2 .written)
     × (c .before .before .loop .written ≤ c .if2 .written)
 came-here c =
@@ -278,10 +277,8 @@ came-here c =
     (λ w. rw (w .1, w .2, w .3, w .4) (l .inv .0, room-for-one (c .before), omega arith)) (c .if2 .came)
 
 loops : (c : tie.Joined2 Inv-loop2 μ-loop2 Inv-loop μ-loop)
-    → Loops (monitorAt (entry (c .before .before .before .before) .args .self .hall) (cleared (c .before .before .before .before))
-    (kept (c .before .before .before .before))) (entry (c .before .before .before .before) .args .piece .now)
-    (entry (c .before .before .before .before) .args .out .now) (c .if2 .hall) (c .before .before .loop .b) (c .before .before .loop .count)
-    (c .if2 .used) (c .if2 .written) (c .if2 .out)
+    → LoopsAt (c .before .before .before .before) (c .if2 .hall) (c .before .before .loop .b) (c .before .before .loop .count) (c .if2 .used)
+    (c .if2 .written) (c .if2 .out)
 loops c = came-here c .0
 
 still-room : (c : tie.Joined2 Inv-loop2 μ-loop2 Inv-loop μ-loop) → outboxNeeded ≤ length (c .if2 .out) - c .if2 .written
@@ -383,8 +380,8 @@ run-spec =
     tie.close
     (tie.spec Inv-loop2 μ-loop2 Inv-loop μ-loop returns (λ c κs. search needs) sub-clear part-b-start part-b-end (λ c κs. search needs)
     loop-holds add-loop sub-stretch sub-stretch-2 (λ c κs. search needs) loop2-holds (λ c. c .before .loop2 .inv .calmed .told)
-    last-within last-within (λ c. search needs) calm-turn-requires add-hall add-used calm-written sub-left loop2-less loop2-again
-    loop2-less-2 loop2-again-2 (λ c. c .before .loop2 .inv .calmed .told) major-within major-within (λ c. search needs)
+    (λ c. last-within (c .before)) (λ c. last-within (c .before)) (λ c. search needs) calm-turn-requires add-hall add-used calm-written sub-left loop2-less loop2-again
+    loop2-less-2 loop2-again-2 (λ c. c .before .loop2 .inv .calmed .told) (λ c. last-within (c .before)) (λ c. last-within (c .before)) (λ c. search needs)
     calm-major-requires major-used major-written major-less major-again slice-aggregate-turn sub-turn part-turn-start
     (λ c. search needs) turn-requires same-length returns-2 (λ c κs. search needs) add-written loop-less loop-again same-length-2
     returns-3)
