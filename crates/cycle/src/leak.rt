@@ -10,7 +10,7 @@ use crate::size::TEMPERATURES;
 use crate::values::Temperatures;
 
 // Does this temperature word show a leak?
-pub fn cold(t: u16) -> bool
+fn cold(t: u16) -> bool
     ensures { λ r. ⌜ r ≡ cold t ⌝ }
 {
     t <= LEAK_MOST || BELOW_ZERO_FROM <= t
@@ -49,7 +49,7 @@ fn leak_walk(jets: u32, t: Temperatures) -> u32
 }
 
 // The mapped jets that leak. With none mapped the walk would find none too, but only after a copy of the words.
-pub fn leak_word(mapped: u32, t: Temperatures) -> u32
+pub(crate) fn leak_word(mapped: u32, t: Temperatures) -> u32
     ensures { λ r. ⌜ r ≡ bitAnd mapped (leakWord t) ⌝ }
 {
     if mapped == 0 {

@@ -23,8 +23,6 @@ use Rattle.cycle.proofs.number.judged as judged
 use Rattle.cycle.proofs.number.follows as follows
 use Rattle.cycle.proofs.string.StringState.«is_quiet» as string-is-quiet
 use Rattle.cycle.proofs.calm.«all_calm» as all-calm
-use Rattle.cycle.proofs.leak.cold as cold
-use Rattle.cycle.proofs.leak.«leak_word» as leak-word
 use Rattle.cycle.proofs.calm.«finds_none» as finds-none
 use Rattle.cycle.proofs.hall.Hall.«kept_all» as hall-kept-all
 use Rattle.cycle.proofs.banks.Bank.unknown as bank-unknown
@@ -140,12 +138,6 @@ string-is-quiet-asks κs a = tt
 
 pub all-calm-asks : AsksNothing all-calm.ended all-calm.Reads.Pre
 all-calm-asks κs a = tt
-
-pub cold-asks : AsksNothing cold.ended cold.Reads.Pre
-cold-asks κs a = tt
-
-pub leak-word-asks : AsksNothing leak-word.ended leak-word.Reads.Pre
-leak-word-asks κs a = tt
 
 pub finds-none-asks : AsksNothing finds-none.ended finds-none.Reads.Pre
 finds-none-asks κs a = tt

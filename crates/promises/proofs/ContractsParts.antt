@@ -4,7 +4,6 @@ use mathlib.Core.Path.{_≡_}
 use mathlib.Core.List.{[]}
 use lib.ListN.{length}
 use denote.Ref.{now}
-use lib.Bits.{bitAnd}
 use Rattle.bits.specs.Bit.{bit, withBit}
 use Rattle.bits.specs.Bit as bits
 use Rattle.cycle.specs.Size.{stringCount, manifoldCount, moduleCount}
@@ -15,8 +14,6 @@ use Rattle.cycle.specs.Records.{minor, major}
 use Rattle.cycle.specs.Numbers as numbers
 use Rattle.cycle.specs.Hall.{freshHall, started, minorTaken, majorTaken, bothWays}
 use Rattle.cycle.specs.Calm as calm
-use Rattle.cycle.specs.Leak as leak
-use Rattle.cycle.specs.Words.{leakWord}
 use Rattle.feed.specs.Bytes.{two, four, inTwo, inFour, putOver}
 use Rattle.feed.specs.Masks.{masksOfBytes}
 use Rattle.feed.specs.Format.{sumOf}
@@ -44,8 +41,6 @@ use Rattle.cycle.proofs.number.judged as judged
 use Rattle.cycle.proofs.number.follows as follows
 use Rattle.cycle.proofs.string.StringState.«is_quiet» as string-is-quiet
 use Rattle.cycle.proofs.calm.«all_calm» as all-calm
-use Rattle.cycle.proofs.leak.cold as cold
-use Rattle.cycle.proofs.leak.«leak_word» as leak-word
 use Rattle.cycle.proofs.calm.«finds_none» as finds-none
 use Rattle.cycle.proofs.hall.Hall.«kept_all» as hall-kept-all
 use Rattle.cycle.proofs.banks.Bank.unknown as bank-unknown
@@ -119,12 +114,6 @@ string-is-quiet-is κs a x w p = p
 
 pub all-calm-is : Says all-calm.ended all-calm.Reads.Post (λ κs a x w. x ≡ calm.allCalm stringCount (a .0))
 all-calm-is κs a x w p = p
-
-pub cold-is : Says cold.ended cold.Reads.Post (λ κs a x w. x ≡ leak.cold (a .0))
-cold-is κs a x w p = p
-
-pub leak-word-is : Says leak-word.ended leak-word.Reads.Post (λ κs a x w. x ≡ bitAnd (a .0) (leakWord (a .1 .0)))
-leak-word-is κs a x w p = p
 
 pub finds-none-is : Says finds-none.ended finds-none.Reads.Post (λ κs a x w. x ≡ calm.findsNone (a .1 .1 .0) (a .1 .1 .1 .0) (a .1 .1 .1 .1 .0) (a .0) (a .1 .0))
 finds-none-is κs a x w p = p

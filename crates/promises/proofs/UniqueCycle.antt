@@ -10,8 +10,6 @@ use Rattle.cycle.proofs.number.judged as judged
 use Rattle.cycle.proofs.number.follows as follows
 use Rattle.cycle.proofs.string.StringState.«is_quiet» as string-is-quiet
 use Rattle.cycle.proofs.calm.«all_calm» as all-calm
-use Rattle.cycle.proofs.leak.cold as cold
-use Rattle.cycle.proofs.leak.«leak_word» as leak-word
 use Rattle.cycle.proofs.calm.«finds_none» as finds-none
 use Rattle.cycle.proofs.hall.Hall.«kept_all» as hall-kept-all
 use Rattle.cycle.proofs.banks.Bank.unknown as bank-unknown
@@ -50,12 +48,6 @@ string-is-quiet-one κs a x x′ w w′ p q = (p ∙ sym q, refl)
 
 pub all-calm-one : OneOutcome all-calm.ended all-calm.Reads.Post
 all-calm-one κs a x x′ w w′ p q = (p ∙ sym q, refl)
-
-pub cold-one : OneOutcome cold.ended cold.Reads.Post
-cold-one κs a x x′ w w′ p q = (p ∙ sym q, refl)
-
-pub leak-word-one : OneOutcome leak-word.ended leak-word.Reads.Post
-leak-word-one κs a x x′ w w′ p q = (p ∙ sym q, refl)
 
 pub finds-none-one : OneOutcome finds-none.ended finds-none.Reads.Post
 finds-none-one κs a x x′ w w′ p q = (p ∙ sym q, refl)
