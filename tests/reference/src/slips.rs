@@ -59,5 +59,6 @@ pub fn slip(record: &mut Record, random: &mut Random) {
 
 /// One word of the jet is at an end of a range that leaks.
 fn chill(string: &mut StringMajor, jet: u32, random: &mut Random) {
-    string.temperatures[jet.trailing_zeros() as usize][random.index(2)] = random.pick(&[0, 63, 32_768, 65_535]);
+    string.temperatures[jet.trailing_zeros() as usize][random.index(2)] =
+        random.pick(&[0, 63, 32_768, 65_535]);
 }

@@ -80,7 +80,14 @@ impl Asked {
 }
 
 /// A night whole from a file or a pipe, every third also in pieces.
-fn night(watches: &mut [Program], name: &str, number: u64, bytes: &[u8], reports: &[Vec<u8>], score: &mut Score) {
+fn night(
+    watches: &mut [Program],
+    name: &str,
+    number: u64,
+    bytes: &[u8],
+    reports: &[Vec<u8>],
+    score: &mut Score,
+) {
     for watch in &mut *watches {
         if number % 3 == 0 {
             let pieces = cut(bytes, &mut Random(!number));
