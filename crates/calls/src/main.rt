@@ -9,6 +9,7 @@
 // Standard output has for each script the number of the start's answer to the hall's masks (1 byte), whatever the kind, and for each call
 // the answer's number (1), the bytes used (2), the whole outbox, the whole hall (618), the low 16 bits of the count (2) and the whole store
 // (619). At the end of its input, at a script that breaks off and at a piece that is too long the program stops silently.
+#![tactic(auto)]
 ghost use Rattle.std.specs.Prelude.{◌≡◌, true, ◌∷◌, ◌%◌, ◌<◌, ◌≤◌, length};
 ghost use Rattle.cycle.specs.Answers.{number_of};
 ghost use Rattle.feed.specs.Bytes.{two, in_two};
@@ -32,7 +33,7 @@ const PIECE: usize = 4096;
 const OUTBOX: usize = 255;
 
 // A script's header; `whole` says that all of it came.
-#[derive(Drop)]
+#[derive(Clone, Copy)]
 struct Header {
     whole: bool,
     kind: u8,
@@ -43,7 +44,7 @@ struct Header {
 }
 
 // The monitor that goes on, and whether there is anything to go on with.
-#[derive(Drop)]
+#[derive(Clone, Copy)]
 struct Step {
     going: bool,
     monitor: Monitor,

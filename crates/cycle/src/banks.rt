@@ -8,7 +8,7 @@ use crate::values::Quantities;
 
 // What is reported of a module: out of balance, the oxidizer is the lesser, the lesser quantity, and fuel less oxidizer, a signed number
 // in two's complement.
-#[derive(Drop)]
+#[derive(Clone, Copy)]
 pub struct Bank {
     pub unbalanced: bool,
     pub oxidizer: bool,

@@ -16,7 +16,7 @@ use crate::string::StringState;
 use crate::values::{Major, Minor, Quantities};
 use bits::has;
 
-#[derive(Drop)]
+#[derive(Clone, Copy)]
 pub struct Hall {
     // The full cycle number.
     pub n: u32,
@@ -26,7 +26,7 @@ pub struct Hall {
 }
 
 // What a step gives back.
-#[derive(Drop)]
+#[derive(Clone, Copy)]
 pub struct Stepped {
     pub answer: Answer,
     pub hall: Hall,

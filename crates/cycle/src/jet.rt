@@ -1,7 +1,7 @@
 // What is remembered of one jet, as yes and no values: the state on which the rules are stated jet by jet (specs/Jets).
 
 // Failed; its manifold's valve remembered as open; in its manifold's saved set.
-#[derive(Drop)]
+#[derive(Clone, Copy)]
 pub struct JetStanding {
     pub fail: bool,
     pub valve: bool,
@@ -9,7 +9,7 @@ pub struct JetStanding {
 }
 
 // The jet's places in the three off slots.
-#[derive(Drop)]
+#[derive(Clone, Copy)]
 pub struct JetOff {
     pub newest: bool,
     pub older: bool,
@@ -17,7 +17,7 @@ pub struct JetOff {
 }
 
 // Its places in the two on slots and in the recheck word.
-#[derive(Drop)]
+#[derive(Clone, Copy)]
 pub struct JetOn {
     pub newest: bool,
     pub older: bool,
@@ -25,13 +25,13 @@ pub struct JetOn {
 }
 
 // The overrides in force.
-#[derive(Drop)]
+#[derive(Clone, Copy)]
 pub struct JetOverrides {
     pub inhibit: bool,
     pub reenable: bool,
 }
 
-#[derive(Drop)]
+#[derive(Clone, Copy)]
 pub struct JetState {
     pub standing: JetStanding,
     pub good: JetStanding,

@@ -7,7 +7,7 @@ ghost use Rattle.cycle.specs.Calm.{mapped_words};
 use crate::size::{MANIFOLDS, STRINGS};
 
 // The masks of one string, manifold 0 first.
-#[derive(Drop)]
+#[derive(Clone, Copy)]
 pub struct Masks {
     pub words: [u32; MANIFOLDS],
 }

@@ -8,14 +8,14 @@ use crate::answer::Answer;
 use crate::size::{LAST_COUNT, MAJOR_EVERY};
 
 // What a taken record leads to: the new cycle number, whether a cycle was missed, and whether a major one was.
-#[derive(Drop)]
+#[derive(Clone, Copy)]
 pub struct Next {
     pub n: u32,
     pub gap: bool,
     pub missed: bool,
 }
 
-#[derive(Drop)]
+#[derive(Clone, Copy)]
 pub enum Verdict {
     Takes(Next),
     Refuses(Answer),

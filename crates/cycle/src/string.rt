@@ -14,21 +14,21 @@ use crate::values::{Requests, Sample, Temperatures};
 use bits::{has, without};
 
 // What the good copy is a copy of: the fail word, the remembered valves (bit i set: manifold i is open) and each manifold's saved set.
-#[derive(Drop)]
+#[derive(Clone, Copy)]
 pub struct Standing {
     pub fail: u32,
     pub valves: u32,
     pub saved: [u32; MANIFOLDS],
 }
 
-#[derive(Drop)]
+#[derive(Clone, Copy)]
 pub struct OffSlots {
     pub newest: u32,
     pub older: u32,
     pub oldest: u32,
 }
 
-#[derive(Drop)]
+#[derive(Clone, Copy)]
 pub struct OnSlots {
     pub newest: u32,
     pub older: u32,
@@ -36,13 +36,13 @@ pub struct OnSlots {
 }
 
 // The inhibits and re-enables in force.
-#[derive(Drop)]
+#[derive(Clone, Copy)]
 pub struct Overrides {
     pub inhibit: u32,
     pub reenable: u32,
 }
 
-#[derive(Drop)]
+#[derive(Clone, Copy)]
 pub struct StringState {
     pub standing: Standing,
     pub good: Standing,
@@ -56,7 +56,7 @@ pub struct StringState {
 }
 
 // What step 4 changes at one manifold.
-#[derive(Drop)]
+#[derive(Clone, Copy)]
 pub struct AtManifold {
     pub fail: u32,
     pub reenable: u32,

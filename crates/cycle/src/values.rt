@@ -2,7 +2,7 @@
 use crate::size::{MODULES, STRINGS, TEMPERATURES};
 
 // One string's part of every record: commanded, pressure and driver words, and the valve byte (bit i set: manifold i is open).
-#[derive(Drop)]
+#[derive(Clone, Copy)]
 pub struct Sample {
     pub commanded: u32,
     pub pressure: u32,
@@ -11,7 +11,7 @@ pub struct Sample {
 }
 
 // A minor record: the wire cycle, the path byte (bit s set: the data path of string s has failed) and the samples.
-#[derive(Drop)]
+#[derive(Clone, Copy)]
 pub struct Minor {
     pub wire: u16,
     pub path: u8,
@@ -19,13 +19,13 @@ pub struct Minor {
 }
 
 // A string's injector temperatures, jet by jet, fuel word then oxidizer word.
-#[derive(Drop)]
+#[derive(Clone, Copy)]
 pub struct Temperatures {
     pub words: [u16; TEMPERATURES],
 }
 
 // A string's requests: inhibit and re-enable words, and the drop byte (bit i set: manifold i's close bit is to be dropped).
-#[derive(Drop)]
+#[derive(Clone, Copy)]
 pub struct Requests {
     pub inhibit: u32,
     pub reenable: u32,
@@ -33,14 +33,14 @@ pub struct Requests {
 }
 
 // A module's two quantities, in tenths of a percent.
-#[derive(Drop)]
+#[derive(Clone, Copy)]
 pub struct Quantities {
     pub fuel: u16,
     pub oxidizer: u16,
 }
 
 // A major record: what a minor one has, and the temperatures, requests and quantities.
-#[derive(Drop)]
+#[derive(Clone, Copy)]
 pub struct Major {
     pub minor: Minor,
     pub temperatures: [Temperatures; STRINGS],

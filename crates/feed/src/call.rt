@@ -19,7 +19,7 @@ use cycle::map::Masks;
 use cycle::size::STRINGS;
 
 // The hall, and the tail of the feed: only the first `count` bytes of `held` count.
-#[derive(Drop)]
+#[derive(Clone, Copy)]
 pub struct Monitor {
     pub hall: Hall,
     pub held: [u8; STORE],
@@ -27,7 +27,7 @@ pub struct Monitor {
 }
 
 // What a call gives back.
-#[derive(Drop)]
+#[derive(Clone, Copy)]
 pub struct Outcome {
     pub answer: Answer,
     pub used: usize,
@@ -35,7 +35,7 @@ pub struct Outcome {
 }
 
 // What a run over a piece gives back: the bytes of the piece used and of the outbox written, and whether there is more to come out.
-#[derive(Drop)]
+#[derive(Clone, Copy)]
 pub struct Ran {
     pub used: usize,
     pub written: usize,
@@ -44,7 +44,7 @@ pub struct Ran {
 }
 
 // What one turn leaves: whether a record was settled, the answer, the hall, the bytes held and the bytes of the piece used.
-#[derive(Drop)]
+#[derive(Clone, Copy)]
 pub struct Turned {
     pub settled: bool,
     pub answer: Answer,

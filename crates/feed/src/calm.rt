@@ -31,7 +31,7 @@ use cycle::size::{LAST_COUNT, MAJOR_EVERY, MODULES, STRINGS};
 use cycle::values::{Requests, Sample};
 
 // Whether calm records can follow, and then each string's mapped jets, as numbers and with the bytes in the order of a record.
-#[derive(Drop)]
+#[derive(Clone, Copy)]
 pub struct Calm {
     pub yes: bool,
     pub jets: [u32; STRINGS],
@@ -39,7 +39,7 @@ pub struct Calm {
 }
 
 // What a major record that may be calm leaves: whether it is, and the hall.
-#[derive(Drop)]
+#[derive(Clone, Copy)]
 pub struct Kept {
     pub yes: bool,
     pub hall: Hall,

@@ -13,14 +13,14 @@ use crate::size::{
 use cycle::size::MODULES;
 
 // The kinds of records. Their rows: `mark_of`, `length_of` and `good`.
-#[derive(Drop)]
+#[derive(Clone, Copy)]
 pub enum Kind {
     Minor,
     Major,
 }
 
 // What the second byte makes of a mark: none, or the mark of a kind.
-#[derive(Drop)]
+#[derive(Clone, Copy)]
 pub enum Mark {
     NoMark,
     Of(Kind),
@@ -28,7 +28,7 @@ pub enum Mark {
 
 // What the oldest byte held is: it cannot begin a mark and is dropped; it begins a mark, or a record that is not complete; it begins a full
 // record that is not good and loses its first byte; or it begins a good record, which is settled.
-#[derive(Drop)]
+#[derive(Clone, Copy)]
 pub enum Look {
     Drops,
     Waits,

@@ -8,7 +8,7 @@ use crate::size::STORE;
 use crate::values::padded;
 
 // The tail of the feed: only the first `count` bytes of `held` count.
-#[derive(Drop)]
+#[derive(Clone, Copy)]
 pub struct Reader {
     pub held: [u8; STORE],
     pub count: usize,
@@ -16,7 +16,7 @@ pub struct Reader {
 
 // What is handed out: the settled record's length, 0 where nothing was settled, and its bytes, 0 in the places behind them; the bytes of
 // the piece used; and the reader that goes on.
-#[derive(Drop)]
+#[derive(Clone, Copy)]
 pub struct Handed {
     pub used: usize,
     pub long: usize,

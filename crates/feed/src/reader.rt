@@ -10,7 +10,7 @@ use crate::format::{Look, Mark, good, length_marked, length_of, look_at, mark_of
 use crate::size::{MARK, MARK_LENGTH, MOST_HELD};
 
 // The first byte that is not dropped, and the length of the record settled there, 0 where there is none.
-#[derive(Drop)]
+#[derive(Clone, Copy)]
 pub struct Front {
     pub at: usize,
     pub long: usize,
@@ -18,7 +18,7 @@ pub struct Front {
 
 // How long the next record is, and where: in the store, from its first byte on, or in the piece from `at` on; how many bytes the store then
 // holds, and how many bytes of the piece are used. A length of 0: nothing was settled, and what is left is in the store.
-#[derive(Drop)]
+#[derive(Clone, Copy)]
 pub struct Found {
     pub long: usize,
     pub held: bool,

@@ -18,7 +18,7 @@ use cycle::hall::Hall;
 use cycle::size::{MODULES, STRINGS};
 
 // What a report shows: n, each string's fail word and close bits, and the banks.
-#[derive(Drop)]
+#[derive(Clone, Copy)]
 pub struct Shown {
     pub n: u32,
     pub fails: [u32; STRINGS],

@@ -5,7 +5,7 @@ ghost use Rattle.lines.specs.Ending.{ended_at};
 use crate::line::{Line, Moved};
 
 // Why the program has ended.
-#[derive(Drop)]
+#[derive(Clone, Copy)]
 pub enum Why {
     InputOver,
     OutputOver,
@@ -14,7 +14,7 @@ pub enum Why {
 }
 
 // Why, after how many turns, and for the line that ended it how many tries, the system's last answer and its last failure.
-#[derive(Drop)]
+#[derive(Clone, Copy)]
 pub struct Ended {
     pub why: Why,
     pub turns: u64,

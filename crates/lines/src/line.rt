@@ -6,7 +6,7 @@ use libc::types::timespec;
 
 // What became of a line: the bytes went over it; it has ended or failed; it was tried so often that no count can hold more; or there was no
 // room for what it would bring.
-#[derive(Drop)]
+#[derive(Clone, Copy)]
 pub enum Line {
     Open,
     Over,
@@ -16,7 +16,7 @@ pub enum Line {
 
 // How many bytes went over a line, what became of it, the tries before the last, what the system answered to the last call, and the last
 // failure. Before any they are 1 and EAGAIN, at which no line is over.
-#[derive(Drop)]
+#[derive(Clone, Copy)]
 pub struct Moved {
     pub bytes: usize,
     pub line: Line,

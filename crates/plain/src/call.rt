@@ -13,14 +13,14 @@ use feed::report::put_shown;
 use feed::size::{MAJOR_MARK, OUTBOX_NEEDED};
 use feed::values::{read_major, read_minor};
 
-#[derive(Drop)]
+#[derive(Clone, Copy)]
 pub struct PlainMonitor {
     pub plain: Plain,
     pub reader: Reader,
 }
 
 // What a call gives back.
-#[derive(Drop)]
+#[derive(Clone, Copy)]
 pub struct PlainOutcome {
     pub answer: Answer,
     pub used: usize,

@@ -14,7 +14,7 @@ use cycle::number::{Next, Verdict, judged};
 use cycle::size::{MODULES, STRINGS, TEMPERATURES};
 use cycle::values::{Major, Minor, Requests, Temperatures};
 
-#[derive(Drop)]
+#[derive(Clone, Copy)]
 pub struct Plain {
     // The full cycle number.
     pub n: u32,
@@ -23,7 +23,7 @@ pub struct Plain {
 }
 
 // What a step gives back.
-#[derive(Drop)]
+#[derive(Clone, Copy)]
 pub struct PlainStepped {
     pub answer: Answer,
     pub plain: Plain,

@@ -12,14 +12,14 @@ use cycle::jet::{JetOff, JetOn, JetOverrides, JetStanding};
 use cycle::size::{BELOW_ZERO_FROM, LEAK_MOST, MANIFOLDS};
 
 // The manifold that a jet stands on: its number, or none.
-#[derive(Drop)]
+#[derive(Clone, Copy)]
 pub enum Place {
     Nowhere,
     On(usize),
 }
 
 // What is remembered of a jet, grouped as the rules group it (cycle's JetState), and its place in the map.
-#[derive(Drop)]
+#[derive(Clone, Copy)]
 pub struct Jet {
     pub place: Place,
     pub standing: JetStanding,

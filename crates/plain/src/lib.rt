@@ -3,6 +3,7 @@
 // `said` opens the words of a record, `map` those of the map; `shown` packs what a report shows into words again. `call` is the monitor
 // over this engine, with the reader and the report of `feed`. That on every run of records from fresh it gives what the packed engine of
 // `cycle` gives is proved (proofs/).
+#![tactic(auto)]
 pub mod call;
 pub mod hall;
 pub mod jet;

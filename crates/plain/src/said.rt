@@ -10,7 +10,7 @@ use cycle::size::{JETS, MANIFOLDS, STRINGS};
 use cycle::values::{Minor, Requests, Sample, Temperatures};
 
 // Its commanded, pressure and driver bits, whether its manifold's valve is open, the requests that name it, its temperature words.
-#[derive(Drop)]
+#[derive(Clone, Copy)]
 pub struct JetSaid {
     pub commanded: bool,
     pub pressure: bool,
@@ -23,7 +23,7 @@ pub struct JetSaid {
 }
 
 // Of a string: whether its data path has failed, whether each manifold's close bit is to be dropped, and of its jets.
-#[derive(Drop)]
+#[derive(Clone, Copy)]
 pub struct StringSaid {
     pub path: bool,
     pub drops: [bool; MANIFOLDS],

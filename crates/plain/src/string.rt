@@ -12,7 +12,7 @@ use cycle::map::Masks;
 use cycle::number::Next;
 use cycle::size::{JETS, MANIFOLDS};
 
-#[derive(Drop)]
+#[derive(Clone, Copy)]
 pub struct PlainString {
     pub jets: [Jet; JETS],
     pub close: [bool; MANIFOLDS],

@@ -1,6 +1,7 @@
 // The night monitor by the plain engine, for audits: the job of `watch`, the map (128 bytes) and then a feed from standard input, the
 // reports to standard output, with the reader and the report of `feed`, the lines of `lines` and the engine of `plain`. It makes one call
 // after the other and writes each report by itself: it is meant to be read, not to be fast.
+#![tactic(auto)]
 ghost use Rattle.std.specs.Prelude.{◌≡◌, ◌≤◌, length, take, if◌then◌else◌};
 ghost use Rattle.cycle.specs.Answers.{writes_report};
 ghost use Rattle.feed.specs.Size.{map_length, report_length, outbox_needed};

@@ -1,6 +1,7 @@
 // The night monitor as a program: the map (128 bytes) and then a feed from standard input, the reports to standard output. Short or refused
 // masks: it writes nothing at all. It takes what the input has ready, writes the reports of that, and only then reads again, so that no
 // report waits for bytes that have not arrived. Memory is fixed. All that matters is in `feed`, and what is done at a line in `lines`.
+#![tactic(auto)]
 ghost use Rattle.std.specs.Prelude.{◌≤◌, length, take};
 ghost use Rattle.feed.specs.Size.{map_length, outbox_needed};
 ghost use Rattle.lines.specs.Lines.{Written};

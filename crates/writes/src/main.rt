@@ -7,6 +7,7 @@
 //
 // Standard output has for each request the number of the writer's answer (1 byte) and the whole outbox. At the end of its input, at a
 // request that breaks off, at another kind and at a longer outbox the program stops silently.
+#![tactic(auto)]
 ghost use Rattle.std.specs.Prelude.{◌≡◌, true, ◌+◌, ◌≤◌, length};
 ghost use Rattle.writes.specs.Request.{allowed, reply};
 

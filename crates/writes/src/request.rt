@@ -31,7 +31,7 @@ const MAJOR_VALUES: usize = MAJOR_SUMMED - MARK_LENGTH;
 pub(crate) const REPLY_LENGTH: usize = 1 + LONGEST;
 
 // What a request says before the values; `room` is the outbox's length.
-#[derive(Drop)]
+#[derive(Clone, Copy)]
 pub(crate) struct Header {
     pub kind: u8,
     pub room: usize,
@@ -39,7 +39,7 @@ pub(crate) struct Header {
 }
 
 // A request; `whole` says that all of it came. The values are in the places that a record has them in.
-#[derive(Drop)]
+#[derive(Clone, Copy)]
 pub(crate) struct Request {
     pub whole: bool,
     pub header: Header,

@@ -1,0 +1,20 @@
+-- `cycle::banks::weighed_all` meets its contract. Assumes nothing.
+use Rattle.std.proofs.Common.{◌≡◌, ◌-◌, ◌≤◌, rules}
+use Rattle.cycle.specs.Size.{module_count}
+use Rattle.cycle.specs.Each.{each}
+use Rattle.cycle.specs.Banks.{weighed_all}
+use Rattle.cycle.proofs.Loops.{turned, ended}
+use Rattle.cycle.proofs.banks.weighed_all.Goals as goal
+
+pub loop-m-init : goal.loop-m-init
+unfolding weighed_all each
+loop-m-init c = search rules
+
+pub loop-m-preserved : goal.loop-m-preserved
+unfolding weighed_all
+loop-m-preserved c = (search rules, turned _ _ _ _ _ _ c.loop-m.invariant.1 c.weighed.ensures)
+
+pub returns : goal.returns
+returns c =
+    let a = c.args in
+    ended (λ m. weighed_all m a.q a.banks) c.loop-m.invariant c.loop-m-test.false

@@ -1,0 +1,35 @@
+-- `cycle::sets::sets_back` meets its contract. Assumes nothing.
+use Rattle.std.proofs.Common.{◌≡◌, ℕ, ◌-◌, ◌≤◌, Bool, cond, List, get_or, ap, ◌∙◌, rules}
+use Rattle.bits.specs.Bit.{bit}
+use Rattle.cycle.specs.Size.{manifold_count}
+use Rattle.cycle.specs.Each.{each}
+use Rattle.cycle.proofs.Loops.{turned, as-asked, ended}
+use Rattle.cycle.proofs.Halves.{sets-chosen}
+use Rattle.cycle.proofs.sets.sets_back.Goals as goal
+
+-- a set by its bit
+abbrev chosen_by : ℕ → List ℕ → ℕ → ℕ → ℕ
+chosen_by back kept i x = cond (bit i back) (get_or kept i 0) x
+
+pub loop-i-init : goal.loop-i-init
+unfolding each
+loop-i-init c = search rules
+
+pub loop-i-preserved : goal.loop-i-preserved
+loop-i-preserved c =
+    let a = c.args in
+    let back = c.chosen-back.result in
+    let at = c.loop-i in (
+      search rules,
+      turned (chosen_by back a.kept) 0 a.own at.i at.saved c.chosen.result at.invariant.1
+          (as-asked (λ (b : Bool). cond b (get_or a.kept at.i 0) (get_or at.saved at.i 0)) c.chosen.ensures
+          c.has.ensures),
+    )
+
+pub returns : goal.returns
+returns c =
+    let a = c.args in
+    let back = c.chosen-back in
+    ended (λ i. each i (chosen_by back.result a.kept) 0 a.own) c.loop-i.invariant c.loop-i-test.false
+    ∙ ap (λ (w : ℕ). each manifold_count (chosen_by w a.kept) 0 a.own) back.ensures
+    ∙ sets-chosen manifold_count a.lost a.kept a.own (search (rules, c.well_formed)) (search (rules, c.well_formed))

@@ -1,0 +1,13 @@
+-- `cycle::string::StringState::manifolds` meets its contract. Assumes nothing.
+use Rattle.cycle.specs.Words.{remembered}
+use Rattle.std.proofs.Common.{◌≡◌, ℕ, ◌-◌, ◌≤◌, List, ap, add-one, arith, rules}
+use Rattle.cycle.specs.Size.{manifold_count}
+use Rattle.cycle.specs.Words.{Passed, passed, manifolds}
+use Rattle.cycle.proofs.string.StringState.manifolds.Given as goal
+
+abbrev pub invariant-loop-i : goal.invariant-loop-i
+invariant-loop-i l = (l.i ≤ manifold_count) ×
+    (passed_at l.saved l.fail l.reenable ≡ passed l.i l.words l.was l.valves (passed_at l.initial.saved l.initial.fail l.initial.reenable))
+
+abbrev pub decreases-loop-i : goal.decreases-loop-i
+decreases-loop-i l = manifold_count - l.i
