@@ -1,6 +1,7 @@
 // Words and single bits: the one place where the two meet. Every function is total: past the last position `has` says no and `with_bit`
 // changes nothing. What a bit of a result is, for all positions at once, is in proofs/.
 #![tactic(auto)]
+
 ghost use Rattle.std.specs.Prelude.{◌≡◌};
 ghost use Rattle.bits.specs.Bit.{bit, without, with_bit, meets};
 

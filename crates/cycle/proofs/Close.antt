@@ -1,6 +1,6 @@
 -- Demand 3's close rule for one jet: it asks for the close bit exactly at a third bad major cycle, and has asked since the last drop
 -- exactly if there was one since. Assumes nothing.
-use Rattle.std.proofs.Common.{◌≡◌, ◌%◌, ◌<◌, Bool, true, false, not, ◌&&◌, ◌||◌, ◌⊎◌, ◌↔◌, List, [], ◌∷◌, refl, inl, inr, ⊎_elim, arith}
+use Rattle.std.proofs.Common.{◌≡◌, ◌%◌, ◌<◌, Bool, true, false, not, ◌&&◌, ◌||◌, ◌↔◌, List, [], ◌∷◌, refl, inl, inr, ⊎_elim, arith}
 use Rattle.bits.proofs.Yes.{not-both, not-true, not-false, and_left, and_right, and_both, or_cases, or_left, or_right}
 use Rattle.cycle.specs.Size.{major_every}
 use Rattle.cycle.specs.Numbers.{is_major}

@@ -1,6 +1,6 @@
 -- The history's side of the close rule: what one more record does to "bad at that major cycle" and "bad at that and the one before".
 -- Assumes nothing.
-use Rattle.std.proofs.Common.{◌≡◌, ℕ, ◌+◌, ◌-◌, ◌*◌, ◌/◌, ◌%◌, ◌≤◌, true, false, ◌↔◌, List, [], ◌∷◌, inl, inr, arith}
+use Rattle.std.proofs.Common.{◌≡◌, ℕ, ◌+◌, ◌-◌, ◌*◌, ◌/◌, ◌%◌, ◌≤◌, true, false, ◌↔◌, List, [], ◌∷◌, inl, inr, subst, arith}
 use Rattle.cycle.specs.Size.{major_every}
 use Rattle.cycle.specs.Jets.{JetRecord, is_bad, reached}
 use Rattle.cycle.specs.Close.{Some, Every, Rising, reenable_in_force}
@@ -68,7 +68,7 @@ once-minor h r p m = (to, back)
     e = omega arith
 
     to : BadOnce (major_below r.n) h → BadOnce (major_up_to r.n) (r ∷ h)
-    to o = rw (← e) (inr o.0, ((λ l. p), o.1))
+    to o = let Q : ℕ → Type 0 = λ a. BadOnce a (r ∷ h) in subst Q e (inr o.0, ((λ l. p), o.1))
 
     old : Some (BadIn (major_up_to r.n)) (r ∷ h) → Some (BadIn (major_up_to r.n)) h
     old (inl x) = absurd (m (omega arith))
@@ -99,7 +99,7 @@ twice-minor h r p m = (to, back)
     e = omega arith
 
     to : BadTwice (major_below r.n) h → BadTwice (major_up_to r.n) (r ∷ h)
-    to o = rw (← e) (inr o.0, inr o.1, ((λ l. p), o.2))
+    to o = let Q : ℕ → Type 0 = λ a. BadTwice a (r ∷ h) in subst Q e (inr o.0, inr o.1, ((λ l. p), o.2))
 
     last : Some (BadFreeIn (major_up_to r.n)) (r ∷ h) → Some (BadFreeIn (major_up_to r.n)) h
     last (inl x) = absurd (m (omega arith))

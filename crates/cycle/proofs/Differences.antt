@@ -1,6 +1,6 @@
 -- Fuel less oxidizer: the word in two's complement by wrapping subtraction; what it is as a signed number, for quantities of at most 1,000;
 -- and what it then says of balance. Assumes nothing.
-use Rattle.std.proofs.Common.{◌≡◌, ℕ, zero, suc, ◌+◌, ◌-◌, ◌%◌, ◌<◌, ◌≤◌, Bool, true, ◌⊎◌, ◌↔◌, ℤ, pos, negsuc, ◌-ℤ◌, ap, inl, inr, ⊎_elim, arith, ltb→lt, lt→ltb, to_z-of_z, w16, SFits, of_z, le-ltb, lt-ltb}
+use Rattle.std.proofs.Common.{◌≡◌, ℕ, zero, suc, ◌+◌, ◌-◌, ◌%◌, ◌<◌, ◌≤◌, Bool, true, ◌⊎◌, ◌↔◌, pos, negsuc, ◌-ℤ◌, ap, inl, inr, ⊎_elim, arith, ltb→lt, lt→ltb, to_z-of_z, w16, SFits, of_z, le-ltb, lt-ltb}
 use native.Mathlib.Decide.{dec_lt}
 use Rattle.cycle.specs.Leak.{signed}
 use Rattle.cycle.specs.Banks.{fuel_less_oxidizer, ToldByDifference}

@@ -1,6 +1,6 @@
 -- One cycle of a string on packed words: the rules of Jets for 32 jets at once, jet j being bit j. That each bit is what Jets says is
 -- proved (proofs/). Masks are one string's, manifold 0 first; `m` is the number of manifolds. Assumes nothing.
-use Rattle.std.specs.Prelude.{ℕ, zero, suc, ◌+◌, ◌*◌, Bool, true, false, cond, List, set, replicate, bit_and, bit_or, slice_index, slice_set}
+use Rattle.std.specs.Prelude.{ℕ, zero, suc, ◌+◌, ◌*◌, Bool, true, false, cond, List, replicate, bit_and, bit_or, slice_index, slice_set}
 use Rattle.bits.specs.Bit.{bit, without, meets, pack}
 use Rattle.cycle.specs.Size.{jet_count, manifold_count, all_open}
 use Rattle.cycle.specs.Leak.{leaks}

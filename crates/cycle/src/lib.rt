@@ -2,6 +2,7 @@
 // that takes the values of one record a step and answers. Each function is total and meets its definition in specs/; that the packed
 // words are, bit by bit, what the rules say jet by jet is proved in proofs/.
 #![tactic(auto)]
+
 pub mod answer;
 pub mod banks;
 pub mod calm;

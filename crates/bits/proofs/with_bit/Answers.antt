@@ -1,5 +1,5 @@
 -- `bits::with_bit` meets its contract. Assumes nothing.
-use Rattle.std.proofs.Common.{◌^◌, ap, ◌∙◌, lit<, arith, bit_or, rules}
+use Rattle.std.proofs.Common.{◌^◌, ap, ◌∙◌, lit<, arith, bit_or}
 use native.Mathlib.Nat.{one-mul}
 use lib.Pow.{shl_exact}
 use borrow.Author.Tests.{lt-ltb, le-ltb}

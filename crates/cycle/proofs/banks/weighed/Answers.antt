@@ -1,5 +1,5 @@
 -- `cycle::banks::weighed` meets its contract. Assumes nothing.
-use Rattle.std.proofs.Common.{rules, le-ltb, lt-ltb}
+use Rattle.std.proofs.Common.{le-ltb, lt-ltb}
 use Rattle.cycle.specs.Banks.{weighed}
 use Rattle.cycle.proofs.banks.weighed.Goals as goal
 

@@ -1,6 +1,5 @@
 -- `cycle::banks::weighed_all` meets its contract. Assumes nothing.
-use Rattle.std.proofs.Common.{◌≡◌, ◌-◌, ◌≤◌, rules}
-use Rattle.cycle.specs.Size.{module_count}
+use Rattle.std.proofs.Common.{rules}
 use Rattle.cycle.specs.Each.{each}
 use Rattle.cycle.specs.Banks.{weighed_all}
 use Rattle.cycle.proofs.Loops.{turned, ended}

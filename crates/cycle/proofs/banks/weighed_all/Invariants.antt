@@ -1,9 +1,7 @@
 -- `cycle::banks::weighed_all` meets its contract. Assumes nothing.
-use Rattle.std.proofs.Common.{◌≡◌, ◌-◌, ◌≤◌, rules}
+use Rattle.std.proofs.Common.{◌≡◌, ◌-◌, ◌≤◌}
 use Rattle.cycle.specs.Size.{module_count}
-use Rattle.cycle.specs.Each.{each}
 use Rattle.cycle.specs.Banks.{weighed_all}
-use Rattle.cycle.proofs.Loops.{turned, ended}
 use Rattle.cycle.proofs.banks.weighed_all.Given as goal
 
 abbrev pub invariant-loop-m : goal.invariant-loop-m

@@ -1,11 +1,7 @@
 -- `cycle::calm::all_calm` meets its contract. The loop's invariant: all strings looked at so far are calm. Assumes nothing.
-use Rattle.std.proofs.Common.{◌≡◌, ℕ, ◌-◌, ◌≤◌, true, false, get_or, sym, refl, ap, ◌∙◌, add-one, arith, rules}
-use Rattle.bits.specs.Bit.{every}
-use Rattle.bits.proofs.Every.{every-at}
-use Rattle.bits.proofs.Yes.{and_both, not-both, not-true, not-no, not_yes}
+use Rattle.std.proofs.Common.{◌≡◌, ◌-◌, ◌≤◌, true}
 use Rattle.cycle.specs.Size.{string_count}
-use Rattle.cycle.specs.Hall.{past_string}
-use Rattle.cycle.specs.Calm.{calm, all_calm}
+use Rattle.cycle.specs.Calm.{all_calm}
 use Rattle.cycle.proofs.calm.all_calm.Given as goal
 
 abbrev pub invariant-loop-s : goal.invariant-loop-s

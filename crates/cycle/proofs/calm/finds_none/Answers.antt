@@ -1,5 +1,4 @@
 -- `cycle::calm::finds_none` meets its contract. Assumes nothing.
-use Rattle.std.proofs.Common.{rules}
 use Rattle.cycle.specs.Calm.{finds_none}
 use Rattle.cycle.proofs.calm.finds_none.Goals as goal
 

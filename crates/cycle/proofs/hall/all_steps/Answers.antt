@@ -1,22 +1,17 @@
 -- `cycle::hall::all_steps` meets its contract. Assumes nothing.
-use Rattle.std.proofs.Common.{◌≡◌, ℕ, ◌-◌, ◌≤◌, Bool, List, [], ◌∷◌, get_or, ap, ◌∙◌, lit≤, rules}
+use Rattle.std.proofs.Common.{ℕ, Bool, [], ◌∷◌, get_or, ap, ◌∙◌, lit≤, rules}
 use Rattle.bits.specs.Bit.{bit}
 use Rattle.cycle.specs.Size.{string_count, manifold_count}
 use Rattle.cycle.specs.Each.{each}
 use Rattle.cycle.specs.Map.{masks_of}
 use Rattle.cycle.specs.Hall.{past_string, no_sample, sample_of, minor_strings}
 use Rattle.cycle.specs.Inside.Halves.{first_steps, fourth_step}
-use Rattle.cycle.specs.declared.map.Masks.{Masks}
 use Rattle.cycle.specs.declared.string.StringState.{StringState}
-use Rattle.cycle.specs.declared.values.Sample.{Sample}
 use Rattle.cycle.proofs.Each.{four-each, twice-each, each_same}
 use Rattle.cycle.proofs.Halves.{both_halves}
 use Rattle.cycle.proofs.Loops.{next-within, next-nearer, next_fits, turned, as-asked, ended}
+use Rattle.cycle.proofs.hall.all_steps.Invariants.{fourth}
 use Rattle.cycle.proofs.hall.all_steps.Goals as goal
-
--- step 4 of string s
-abbrev fourth : List Masks → ℕ → List Sample → ℕ → StringState → StringState
-fourth masks path samples s x = fourth_step manifold_count (masks_of masks s) (bit s path) (get_or samples s no_sample).valves x
 
 pub loop-s-init : goal.loop-s-init
 unfolding each

@@ -1,5 +1,5 @@
 -- `cycle::hall::minor_strings` meets its contract. Assumes nothing.
-use Rattle.std.proofs.Common.{◌∙◌, rules}
+use Rattle.std.proofs.Common.{◌∙◌}
 use Rattle.cycle.specs.Size.{string_count}
 use Rattle.cycle.proofs.Quiet.{told-quiet}
 use Rattle.cycle.proofs.hall.minor_strings.Goals as goal

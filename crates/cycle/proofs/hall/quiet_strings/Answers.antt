@@ -1,5 +1,5 @@
 -- `cycle::hall::quiet_strings` meets its contract. Assumes nothing.
-use Rattle.std.proofs.Common.{◌≡◌, ◌-◌, ◌≤◌, arith, rules}
+use Rattle.std.proofs.Common.{◌≡◌, arith, rules}
 use Rattle.cycle.specs.Size.{string_count}
 use Rattle.cycle.specs.Each.{each}
 use Rattle.cycle.specs.Hall.{past_string}

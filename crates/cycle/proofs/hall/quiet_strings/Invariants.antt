@@ -1,10 +1,7 @@
 -- `cycle::hall::quiet_strings` meets its contract. Assumes nothing.
-use Rattle.std.proofs.Common.{◌≡◌, ◌-◌, ◌≤◌, arith, rules}
+use Rattle.std.proofs.Common.{◌≡◌, ◌-◌, ◌≤◌}
 use Rattle.cycle.specs.Size.{string_count}
-use Rattle.cycle.specs.Each.{each}
-use Rattle.cycle.specs.Hall.{past_string}
 use Rattle.cycle.specs.Inside.Quiet.{quiet_strings}
-use Rattle.cycle.proofs.Loops.{turned}
 use Rattle.cycle.proofs.hall.quiet_strings.Given as goal
 
 abbrev pub invariant-loop-s : goal.invariant-loop-s

@@ -1,5 +1,5 @@
 -- `cycle::hall::some_busy` meets its contract. Assumes nothing.
-use Rattle.std.proofs.Common.{◌≡◌, ◌-◌, ◌≤◌, add-one, arith, rules}
+use Rattle.std.proofs.Common.{◌≡◌, add-one, arith, rules}
 use Rattle.cycle.specs.Size.{string_count}
 use Rattle.bits.specs.Bit.{any}
 use Rattle.cycle.specs.Inside.Quiet.{some_busy}

@@ -1,7 +1,6 @@
 -- `cycle::hall::some_busy` meets its contract. Assumes nothing.
-use Rattle.std.proofs.Common.{◌≡◌, ◌-◌, ◌≤◌, add-one, arith, rules}
+use Rattle.std.proofs.Common.{◌≡◌, ◌-◌, ◌≤◌}
 use Rattle.cycle.specs.Size.{string_count}
-use Rattle.bits.specs.Bit.{any}
 use Rattle.cycle.specs.Inside.Quiet.{some_busy}
 use Rattle.cycle.proofs.hall.some_busy.Given as goal
 

@@ -1,5 +1,5 @@
 -- `cycle::hall::start` meets its contract. Assumes nothing.
-use Rattle.std.proofs.Common.{◌≡◌, Bool, true, false, List, replicate, rules}
+use Rattle.std.proofs.Common.{◌≡◌, Bool, true, false, List, replicate}
 use Rattle.cycle.specs.Size.{string_count}
 use Rattle.cycle.specs.Map.{no_masks, refused}
 use Rattle.cycle.specs.Hall.{fresh_hall, started}

@@ -5,7 +5,6 @@ use native.Mathlib.Decide.{dec_lt}
 use borrow.Author.Tests.{lt-leb}
 use Rattle.cycle.specs.Size.{leak_most}
 use Rattle.cycle.specs.Leak.{cold}
-use Rattle.std.proofs.Common.{rules}
 use Rattle.cycle.proofs.leak.cold.Goals as goal
 
 up : (t : ℕ) → t < 32768 → cold t ≡ leb t leak_most

@@ -1,6 +1,5 @@
 -- `cycle::leak::leak_sweep` meets its contract. Assumes nothing.
-use Rattle.std.proofs.Common.{◌≡◌, ◌-◌, ◌*◌, ◌≤◌, ◌∙◌, arith, rules}
-use Rattle.cycle.specs.Size.{jet_count}
+use Rattle.std.proofs.Common.{◌∙◌, arith, rules}
 use Rattle.cycle.proofs.Loops.{ended}
 use Rattle.cycle.proofs.MappedLeaks.{swept, swept_all, sweep-turn}
 use Rattle.cycle.proofs.leak.leak_sweep.Goals as goal
@@ -10,13 +9,12 @@ unfolding swept
 loop-k-init c = search rules
 
 pub loop-k-preserved : goal.loop-k-preserved
-loop-k-preserved c =
-    (
-      search rules,
-      c.with_bit-w.ensures
-          ∙ sweep-turn c.args.t.words c.loop-k.k (omega (arith, c.loop-k-test.true))
-          c.loop-k.invariant.1 c.cold-b.ensures,
-    )
+loop-k-preserved c = (
+  search rules,
+  c.with_bit-w.ensures
+      ∙ sweep-turn c.args.t.words c.loop-k.k (omega (arith, c.loop-k-test.true))
+      c.loop-k.invariant.1 c.cold-b.ensures,
+)
 
 pub returns : goal.returns
 returns c =

@@ -1,8 +1,7 @@
 -- `cycle::leak::leak_sweep` meets its contract. Assumes nothing.
-use Rattle.std.proofs.Common.{◌≡◌, ◌-◌, ◌*◌, ◌≤◌, ◌∙◌, arith, rules}
+use Rattle.std.proofs.Common.{◌≡◌, ◌-◌, ◌*◌, ◌≤◌}
 use Rattle.cycle.specs.Size.{jet_count}
-use Rattle.cycle.proofs.Loops.{ended}
-use Rattle.cycle.proofs.MappedLeaks.{swept, swept_all, sweep-turn}
+use Rattle.cycle.proofs.MappedLeaks.{swept}
 use Rattle.cycle.proofs.leak.leak_sweep.Given as goal
 
 abbrev pub invariant-loop-k : goal.invariant-loop-k

@@ -1,5 +1,5 @@
 -- `cycle::leak::leak_walk` meets its contract: the lowest jet that is left is visited and flipped, until none is left. Assumes nothing.
-use Rattle.std.proofs.Common.{◌≡◌, ℕ, ◌+◌, ◌*◌, ◌%◌, ◌^◌, ◌<◌, Bool, true, false, get_or, sym, ap, ◌∙◌, ⊎_elim, lt_trans, eq-zero-or-pos, one-mul, arith, lit<, shl_exact, rules}
+use Rattle.std.proofs.Common.{◌≡◌, ℕ, ◌+◌, ◌*◌, ◌%◌, ◌^◌, ◌<◌, Bool, true, false, get_or, sym, ap, ◌∙◌, ⊎_elim, lt_trans, eq-zero-or-pos, one-mul, arith, lit<, shl_exact}
 use lib.Bits.{bit_and, bit_or, bit_xor, or_zero_l}
 use lib.Count.{count_trailing_zeros}
 use Rattle.bits.specs.Bit.{word_bits, bit, plus_bit}
@@ -7,9 +7,9 @@ use Rattle.bits.proofs.Yes.{or_left, or_right, or-neither}
 use Rattle.bits.proofs.Lowest.{lowest_set, flipped-less}
 use Rattle.cycle.specs.Leak.{cold}
 use Rattle.cycle.specs.Words.{jet_leaks, leak_word}
-use Rattle.cycle.specs.declared.values.Temperatures.{Temperatures}
 use Rattle.cycle.proofs.MappedLeaks.{walk_turn, walk_ends}
 use Rattle.cycle.proofs.leak.leak_walk.Goals as goal
+use Rattle.cycle.proofs.leak.leak_walk.Goals.{then-cold, else-cold+else-cold-2, then-cold-via-then-cold, then-cold-via-else-cold+then-cold-2}
 
 pub loop-rest-init : goal.loop-rest-init
 loop-rest-init c = (c.ranges.jets.fits, or_zero_l _)
@@ -55,16 +55,20 @@ loop-rest-preserved c =
     → bit_or c.if-cold.w (bit_and (bit_xor rest (1 * 2 ^ j % 2 ^ 32)) (leak_word t)) ≡ bit_and jets (leak_word t) =
     λ leaking q f. walk_turn jets w j rest t leaking found.0 found.1 q f (flips rest some h) c.loop-rest.invariant.1 in (
       lt_trans (less rest some h) h,
-      ⊎_elim
-          (λ leaks.
-          turned true
-          (⊎_elim (λ first. sym (or_left fuel oxidizer (sym fuel-is ∙ first.taken)))
-          (λ second. sym (or_right fuel oxidizer (sym second.1.ensures ∙ second.2.taken))) leaks.0.came)
-          (leaks.1 ∙ ap (bit_or w) (shifted j found.0)))
-          (λ sound.
-          turned false (sym (or-neither fuel oxidizer (sym fuel-is ∙ sound.0.left) (sym sound.1.ensures ∙ sound.2.left)))
-          sound.3)
-          c.if-cold.branch,
+      elim c.if-cold.branch [
+        | then-cold w' ↦
+            turned true
+            (elim w'.then-cold.branch as (λ _. true ≡ jet_leaks t.words j) [
+              | then-cold-via-then-cold first ↦ sym (or_left fuel oxidizer (sym fuel-is ∙ first.if-cold.true))
+              | then-cold-via-else-cold+then-cold-2 second ↦
+                  sym (or_right fuel oxidizer (sym second.cold-else-cold.ensures ∙ second.if-cold-2.true))
+            ])
+            (w'.w-is ∙ ap (bit_or w) (shifted j found.0))
+        | else-cold+else-cold-2 w' ↦
+            turned false
+            (sym (or-neither fuel oxidizer (sym fuel-is ∙ w'.if-cold.false) (sym w'.cold-else-cold.ensures ∙ w'.if-cold-2.false)))
+            w'.w-is
+      ],
     )
 
 pub returns : goal.returns

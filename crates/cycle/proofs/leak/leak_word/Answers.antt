@@ -1,5 +1,5 @@
 -- `cycle::leak::leak_word` meets its contract. Assumes nothing.
-use Rattle.std.proofs.Common.{ℕ, sym, ap, ◌∙◌, rules}
+use Rattle.std.proofs.Common.{ℕ, sym, ap, ◌∙◌}
 use lib.Bits.{bit_and, and_zero_l}
 use Rattle.cycle.specs.Words.{leak_word}
 use Rattle.cycle.proofs.MappedLeaks.{all-mapped}

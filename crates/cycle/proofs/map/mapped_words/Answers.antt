@@ -1,16 +1,10 @@
 -- `cycle::map::mapped_words` meets its contract. Assumes nothing.
-use Rattle.std.proofs.Common.{◌≡◌, ℕ, ◌-◌, ◌≤◌, List, replicate, rules}
-use Rattle.cycle.specs.Size.{string_count, manifold_count}
+use Rattle.std.proofs.Common.{rules}
 use Rattle.cycle.specs.Each.{each}
-use Rattle.cycle.specs.Map.{masks_of, mapped}
 use Rattle.cycle.specs.Calm.{mapped_words}
-use Rattle.cycle.specs.declared.map.Masks.{Masks}
 use Rattle.cycle.proofs.Loops.{turned, ended}
+use Rattle.cycle.proofs.map.mapped_words.Invariants.{filled}
 use Rattle.cycle.proofs.map.mapped_words.Goals as goal
-
--- the words of the lowest n strings
-abbrev filled : List Masks → ℕ → List ℕ
-filled masks n = each n (λ s x. mapped manifold_count (masks_of masks s)) 0 (replicate string_count 0)
 
 pub loop-s-init : goal.loop-s-init
 unfolding each

@@ -1,7 +1,6 @@
 -- `cycle::map::refused` meets its contract. Assumes nothing.
-use Rattle.std.proofs.Common.{◌≡◌, ◌-◌, ◌≤◌, rules}
+use Rattle.std.proofs.Common.{rules}
 use Rattle.bits.specs.Bit.{any}
-use Rattle.cycle.specs.Size.{string_count}
 use Rattle.cycle.specs.Map.{refused}
 use Rattle.cycle.proofs.Loops.{refused-turn, ended}
 use Rattle.cycle.proofs.map.refused.Goals as goal

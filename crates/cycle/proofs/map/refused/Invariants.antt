@@ -1,9 +1,7 @@
 -- `cycle::map::refused` meets its contract. Assumes nothing.
-use Rattle.std.proofs.Common.{◌≡◌, ◌-◌, ◌≤◌, rules}
-use Rattle.bits.specs.Bit.{any}
+use Rattle.std.proofs.Common.{◌≡◌, ◌-◌, ◌≤◌}
 use Rattle.cycle.specs.Size.{string_count}
 use Rattle.cycle.specs.Map.{refused}
-use Rattle.cycle.proofs.Loops.{refused-turn, ended}
 use Rattle.cycle.proofs.map.refused.Given as goal
 
 abbrev pub invariant-loop-s : goal.invariant-loop-s

@@ -1,5 +1,5 @@
 -- `cycle::number::following` meets its contract. Assumes nothing.
-use Rattle.std.proofs.Common.{◌≡◌, ◌+◌, not, sym, ap, ◌∙◌, arith, rules}
+use Rattle.std.proofs.Common.{◌≡◌, ◌+◌, not, sym, ap, ◌∙◌, arith}
 use Rattle.cycle.specs.Numbers.{is_major}
 use Rattle.cycle.specs.declared.number.Verdict.TheVariants.{Takes}
 use Rattle.cycle.proofs.Numbers.{follows-ended, follows-wrong, follows-right}

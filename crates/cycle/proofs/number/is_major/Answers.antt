@@ -1,7 +1,6 @@
 -- `cycle::number::is_major` meets its contract. Assumes nothing.
 use Rattle.std.proofs.Common.{refl}
 use Rattle.cycle.specs.Numbers.{is_major}
-use Rattle.std.proofs.Common.{rules}
 use Rattle.cycle.proofs.number.is_major.Goals as goal
 
 pub returns : goal.returns

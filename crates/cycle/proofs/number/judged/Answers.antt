@@ -1,5 +1,5 @@
 -- `cycle::number::judged` meets its contract. Assumes nothing.
-use Rattle.std.proofs.Common.{◌≡◌, ℕ, ◌<◌, Bool, true, false, ltb, sym, ap, ◌∙◌, ap₂, arith, rules, le-ltb, lt-ltb}
+use Rattle.std.proofs.Common.{◌≡◌, ℕ, ◌<◌, Bool, true, false, ltb, sym, ap, ◌∙◌, ap₂, arith, le-ltb, lt-ltb}
 use Rattle.cycle.specs.Size.{stale_from}
 use Rattle.cycle.specs.Numbers.{distance, following, judged}
 use Rattle.cycle.specs.declared.number.Verdict.{Verdict}

@@ -1,7 +1,6 @@
 -- `cycle::requests::both_ways` meets its contract. Assumes nothing.
-use Rattle.std.proofs.Common.{◌≡◌, ◌-◌, ◌≤◌, rules}
+use Rattle.std.proofs.Common.{rules}
 use Rattle.bits.specs.Bit.{any}
-use Rattle.cycle.specs.Size.{string_count}
 use Rattle.cycle.specs.Hall.{both_ways}
 use Rattle.cycle.proofs.Loops.{both-ways-turn, ended}
 use Rattle.cycle.proofs.requests.both_ways.Goals as goal

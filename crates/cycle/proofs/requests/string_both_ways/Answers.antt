@@ -1,5 +1,5 @@
 -- `cycle::requests::string_both_ways` meets its contract. Assumes nothing.
-use Rattle.std.proofs.Common.{ap, ◌∙◌, rules}
+use Rattle.std.proofs.Common.{ap, ◌∙◌}
 use lib.Bits.{bit_and}
 use Rattle.bits.specs.Bit.{meets}
 use Rattle.cycle.proofs.requests.string_both_ways.Goals as goal

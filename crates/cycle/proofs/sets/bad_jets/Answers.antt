@@ -1,6 +1,5 @@
 -- `cycle::sets::bad_jets` meets its contract. Assumes nothing.
 use Rattle.cycle.specs.Words.{bad_jets}
-use Rattle.std.proofs.Common.{rules}
 use Rattle.cycle.proofs.sets.bad_jets.Goals as goal
 
 pub returns : goal.returns

@@ -1,6 +1,5 @@
 -- `cycle::sets::behind_closed` meets its contract. Assumes nothing.
-use Rattle.std.proofs.Common.{◌≡◌, ◌-◌, ◌≤◌, Bool, cond, get_or, rules}
-use Rattle.cycle.specs.Size.{manifold_count}
+use Rattle.std.proofs.Common.{Bool, cond, get_or, rules}
 use Rattle.cycle.specs.Words.{behind_closed}
 use Rattle.cycle.proofs.Loops.{as-asked, ended}
 use Rattle.cycle.proofs.BehindClosed.{closed-turn}

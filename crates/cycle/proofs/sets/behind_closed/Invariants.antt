@@ -1,9 +1,7 @@
 -- `cycle::sets::behind_closed` meets its contract. Assumes nothing.
-use Rattle.std.proofs.Common.{◌≡◌, ◌-◌, ◌≤◌, Bool, cond, get_or, rules}
+use Rattle.std.proofs.Common.{◌≡◌, ◌-◌, ◌≤◌}
 use Rattle.cycle.specs.Size.{manifold_count}
 use Rattle.cycle.specs.Words.{behind_closed}
-use Rattle.cycle.proofs.Loops.{as-asked, ended}
-use Rattle.cycle.proofs.BehindClosed.{closed-turn}
 use Rattle.cycle.proofs.sets.behind_closed.Given as goal
 
 abbrev pub invariant-loop-i : goal.invariant-loop-i

@@ -1,5 +1,5 @@
 -- `cycle::sets::close_bits` meets its contract. Assumes nothing.
-use Rattle.std.proofs.Common.{◌≡◌, ◌-◌, ◌≤◌, get_or, ◌∙◌, add-one, arith, rules}
+use Rattle.std.proofs.Common.{◌≡◌, get_or, ◌∙◌, add-one, arith, rules}
 use Rattle.bits.proofs.Words.{pack-next}
 use Rattle.bits.specs.Bit.{pack}
 use Rattle.cycle.specs.Size.{manifold_count}

@@ -1,9 +1,7 @@
 -- `cycle::sets::close_bits` meets its contract. Assumes nothing.
-use Rattle.std.proofs.Common.{◌≡◌, ◌-◌, ◌≤◌, get_or, ◌∙◌, add-one, arith, rules}
-use Rattle.bits.proofs.Words.{pack-next}
-use Rattle.bits.specs.Bit.{pack}
+use Rattle.std.proofs.Common.{◌≡◌, ◌-◌, ◌≤◌}
 use Rattle.cycle.specs.Size.{manifold_count}
-use Rattle.cycle.specs.Words.{asks_close, close_bits}
+use Rattle.cycle.specs.Words.{close_bits}
 use Rattle.cycle.proofs.sets.close_bits.Given as goal
 
 abbrev pub invariant-loop-i : goal.invariant-loop-i

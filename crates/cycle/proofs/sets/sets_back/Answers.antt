@@ -1,15 +1,11 @@
 -- `cycle::sets::sets_back` meets its contract. Assumes nothing.
-use Rattle.std.proofs.Common.{◌≡◌, ℕ, ◌-◌, ◌≤◌, Bool, cond, List, get_or, ap, ◌∙◌, rules}
-use Rattle.bits.specs.Bit.{bit}
+use Rattle.std.proofs.Common.{ℕ, Bool, cond, get_or, ap, ◌∙◌, rules}
 use Rattle.cycle.specs.Size.{manifold_count}
 use Rattle.cycle.specs.Each.{each}
 use Rattle.cycle.proofs.Loops.{turned, as-asked, ended}
 use Rattle.cycle.proofs.Halves.{sets-chosen}
+use Rattle.cycle.proofs.sets.sets_back.Invariants.{chosen_by}
 use Rattle.cycle.proofs.sets.sets_back.Goals as goal
-
--- a set by its bit
-abbrev chosen_by : ℕ → List ℕ → ℕ → ℕ → ℕ
-chosen_by back kept i x = cond (bit i back) (get_or kept i 0) x
 
 pub loop-i-init : goal.loop-i-init
 unfolding each

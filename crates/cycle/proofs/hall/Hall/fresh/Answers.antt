@@ -1,5 +1,5 @@
 -- `cycle::hall::Hall::fresh` meets its contract. Assumes nothing.
-use Rattle.std.proofs.Common.{replicate, ap₂, rules}
+use Rattle.std.proofs.Common.{replicate, ap₂}
 use Rattle.cycle.specs.Size.{string_count, module_count}
 use Rattle.cycle.specs.Hall.{fresh_hall}
 use Rattle.cycle.proofs.hall.Hall.fresh.Goals as goal

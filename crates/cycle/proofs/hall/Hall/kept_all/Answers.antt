@@ -1,5 +1,4 @@
 -- `cycle::hall::Hall::kept_all` meets its contract. Assumes nothing.
-use Rattle.std.proofs.Common.{rules}
 use Rattle.cycle.specs.Calm.{kept_all}
 use Rattle.cycle.proofs.hall.Hall.kept_all.Goals as goal
 

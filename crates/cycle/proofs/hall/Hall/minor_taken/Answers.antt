@@ -1,5 +1,4 @@
 -- `cycle::hall::Hall::minor_taken` meets its contract. Assumes nothing.
-use Rattle.std.proofs.Common.{rules}
 use Rattle.cycle.proofs.hall.Hall.minor_taken.Goals as goal
 
 pub returns : goal.returns

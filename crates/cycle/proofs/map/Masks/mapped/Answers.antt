@@ -1,6 +1,5 @@
 -- `cycle::map::Masks::mapped` meets its contract. Assumes nothing.
-use Rattle.std.proofs.Common.{◌≡◌, ◌-◌, ◌≤◌, rules}
-use Rattle.cycle.specs.Size.{manifold_count}
+use Rattle.std.proofs.Common.{rules}
 use Rattle.cycle.specs.Map.{mapped}
 use Rattle.cycle.proofs.Loops.{mapped-turn, ended}
 use Rattle.cycle.proofs.map.Masks.mapped.Goals as goal

@@ -1,8 +1,7 @@
 -- `cycle::map::Masks::mapped` meets its contract. Assumes nothing.
-use Rattle.std.proofs.Common.{◌≡◌, ◌-◌, ◌≤◌, rules}
+use Rattle.std.proofs.Common.{◌≡◌, ◌-◌, ◌≤◌}
 use Rattle.cycle.specs.Size.{manifold_count}
 use Rattle.cycle.specs.Map.{mapped}
-use Rattle.cycle.proofs.Loops.{mapped-turn, ended}
 use Rattle.cycle.proofs.map.Masks.mapped.Given as goal
 
 abbrev pub invariant-loop-i : goal.invariant-loop-i

@@ -1,6 +1,5 @@
 -- `cycle::map::Masks::overlap` meets its contract. Assumes nothing.
-use Rattle.std.proofs.Common.{◌≡◌, ◌-◌, ◌≤◌, rules}
-use Rattle.cycle.specs.Size.{manifold_count}
+use Rattle.std.proofs.Common.{rules}
 use Rattle.cycle.specs.Map.{mapped, overlap}
 use Rattle.cycle.proofs.Loops.{mapped-turn, overlap-turn, ended}
 use Rattle.cycle.proofs.map.Masks.overlap.Goals as goal

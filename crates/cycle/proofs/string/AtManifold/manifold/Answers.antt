@@ -1,17 +1,15 @@
 -- `cycle::string::AtManifold::manifold` meets its contract. Assumes nothing.
-use Rattle.bits.proofs.Yes.{not-true, not-no}
 use Rattle.cycle.specs.Words.{manifold}
-use Rattle.std.proofs.Common.{rules}
 use Rattle.cycle.proofs.string.AtManifold.manifold.Goals as goal
 
 pub returns-then-not-now : goal.returns-then-not-now
 unfolding manifold
 returns-then-not-now c =
-    rw (c.if-was.true, not-true c.args.now c.if-not-now.true) (cc)
+    rw (c.if-was.true, c.if-not-now.true) (cc)
 
 pub returns-else-not-now : goal.returns-else-not-now
 unfolding manifold
-returns-else-not-now c = rw (c.if-was.true, not-no c.args.now c.if-not-now.false)
+returns-else-not-now c = rw (c.if-was.true, c.if-not-now.false)
 
 pub returns-then-now : goal.returns-then-now
 unfolding manifold

@@ -1,6 +1,5 @@
 -- `cycle::string::StringState::first_steps` meets its contract. Assumes nothing.
 use Rattle.cycle.specs.Inside.Halves.{first_steps}
-use Rattle.std.proofs.Common.{rules}
 use Rattle.cycle.proofs.string.StringState.first_steps.Goals as goal
 
 pub returns-then-path : goal.returns-then-path

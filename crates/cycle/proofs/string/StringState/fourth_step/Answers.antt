@@ -1,6 +1,5 @@
 -- `cycle::string::StringState::fourth_step` meets its contract. Assumes nothing.
 use Rattle.cycle.specs.Inside.Halves.{fourth_step}
-use Rattle.std.proofs.Common.{rules}
 use Rattle.cycle.proofs.string.StringState.fourth_step.Goals as goal
 
 pub returns-then-path : goal.returns-then-path

@@ -1,5 +1,4 @@
 -- `cycle::string::StringState::is_calm` meets its contract. Assumes nothing.
-use Rattle.std.proofs.Common.{rules}
 use Rattle.cycle.specs.Calm.{calm}
 use Rattle.cycle.proofs.string.StringState.is_calm.Goals as goal
 

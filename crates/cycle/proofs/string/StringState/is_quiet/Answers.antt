@@ -1,5 +1,4 @@
 -- `cycle::string::StringState::is_quiet` meets its contract. Assumes nothing.
-use Rattle.std.proofs.Common.{rules}
 use Rattle.cycle.specs.Calm.{quiet}
 use Rattle.cycle.proofs.string.StringState.is_quiet.Goals as goal
 

@@ -1,7 +1,6 @@
 -- `cycle::string::StringState::major_cycle` meets its contract. Assumes nothing.
 use Rattle.cycle.specs.Words.{leak_word, major_cycle, major_steps}
 use Rattle.cycle.proofs.MappedLeaks.{bad-by-found}
-use Rattle.std.proofs.Common.{rules}
 use Rattle.cycle.proofs.string.StringState.major_cycle.Goals as goal
 
 pub returns-then-path : goal.returns-then-path

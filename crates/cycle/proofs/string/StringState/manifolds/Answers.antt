@@ -1,13 +1,10 @@
 -- `cycle::string::StringState::manifolds` meets its contract. Assumes nothing.
 use Rattle.cycle.specs.Words.{remembered}
-use Rattle.std.proofs.Common.{◌≡◌, ℕ, ◌-◌, ◌≤◌, List, ap, add-one, arith, rules}
+use Rattle.std.proofs.Common.{◌≡◌, ap, add-one, arith, rules}
 use Rattle.cycle.specs.Size.{manifold_count}
 use Rattle.cycle.specs.Words.{Passed, passed, manifolds}
+use Rattle.cycle.proofs.string.StringState.manifolds.Invariants.{passed_at}
 use Rattle.cycle.proofs.string.StringState.manifolds.Goals as goal
-
--- the loop's locals as the definition groups them
-abbrev passed_at : List ℕ → ℕ → ℕ → Passed
-passed_at saved fail reenable = record { fail = fail; reenable = reenable; saved = saved }
 
 pub loop-i-init : goal.loop-i-init
 unfolding passed

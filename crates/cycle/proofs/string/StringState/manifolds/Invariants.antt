@@ -1,9 +1,12 @@
 -- `cycle::string::StringState::manifolds` meets its contract. Assumes nothing.
-use Rattle.cycle.specs.Words.{remembered}
-use Rattle.std.proofs.Common.{◌≡◌, ℕ, ◌-◌, ◌≤◌, List, ap, add-one, arith, rules}
+use Rattle.std.proofs.Common.{◌≡◌, ℕ, ◌-◌, ◌≤◌, List}
 use Rattle.cycle.specs.Size.{manifold_count}
-use Rattle.cycle.specs.Words.{Passed, passed, manifolds}
+use Rattle.cycle.specs.Words.{Passed, passed}
 use Rattle.cycle.proofs.string.StringState.manifolds.Given as goal
+
+-- the loop's locals as the definition groups them
+abbrev pub passed_at : List ℕ → ℕ → ℕ → Passed
+passed_at saved fail reenable = record { fail = fail; reenable = reenable; saved = saved }
 
 abbrev pub invariant-loop-i : goal.invariant-loop-i
 invariant-loop-i l = (l.i ≤ manifold_count) ×

@@ -1,6 +1,5 @@
 -- `cycle::string::StringState::off_failure` meets its contract. Assumes nothing.
 use Rattle.cycle.specs.Words.{off_failure}
-use Rattle.std.proofs.Common.{rules}
 use Rattle.cycle.proofs.string.StringState.off_failure.Goals as goal
 
 pub returns : goal.returns

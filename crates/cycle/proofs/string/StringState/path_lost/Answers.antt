@@ -1,7 +1,6 @@
 -- `cycle::string::StringState::path_lost` meets its contract. Assumes nothing.
 use Rattle.std.proofs.Common.{refl}
 use Rattle.cycle.specs.Words.{path_lost}
-use Rattle.std.proofs.Common.{rules}
 use Rattle.cycle.proofs.string.StringState.path_lost.Goals as goal
 
 pub returns : goal.returns

@@ -1,5 +1,5 @@
 -- `cycle::string::StringState::rechecked` meets its contract. Assumes nothing.
-use Rattle.std.proofs.Common.{ℕ, ap, ◌∙◌, rules}
+use Rattle.std.proofs.Common.{ℕ, ap, ◌∙◌}
 use lib.Bits.{bit_or}
 use Rattle.cycle.specs.Size.{manifold_count}
 use Rattle.cycle.specs.Words.{with_close, close_bits, rechecked}

@@ -1,5 +1,4 @@
 -- `cycle::string::StringState::recovered` meets its contract. Assumes nothing.
-use Rattle.std.proofs.Common.{rules}
 use Rattle.cycle.proofs.Halves.{recovered-back, recovered-own}
 use Rattle.cycle.proofs.string.StringState.recovered.Goals as goal
 

@@ -1,6 +1,5 @@
 -- `cycle::string::StringState::requested` meets its contract. Assumes nothing.
 use Rattle.cycle.specs.Words.{requested}
-use Rattle.std.proofs.Common.{rules}
 use Rattle.cycle.proofs.string.StringState.requested.Goals as goal
 
 pub returns : goal.returns
