@@ -1,0 +1,15 @@
+-- `feed::call::Monitor::start` meets its contract. Assumes nothing.
+use Rattle.std.proofs.Common.{[], ap, rules}
+use Rattle.feed.specs.Call.{holding, started_over}
+use Rattle.feed.specs.declared.call.Outcome.{Outcome}
+use Rattle.cycle.specs.declared.hall.Stepped.{Stepped}
+use Rattle.feed.specs.Call.{started_over}
+use Rattle.feed.proofs.call.Monitor.start.Goals as goal
+
+-- what a start gives back
+abbrev outcome_of : Stepped → Outcome
+outcome_of x = record { answer = x.answer; used = 0; monitor = holding x.hall [] }
+
+pub returns : goal.returns
+unfolding started_over
+returns c = ap outcome_of c.start-s.ensures

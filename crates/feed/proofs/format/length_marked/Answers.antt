@@ -1,0 +1,7 @@
+-- `feed::format::length_marked` meets its contract. Assumes nothing.
+use Rattle.std.proofs.Common.{sym, ap, ◌∙◌, rules}
+use Rattle.feed.specs.Format.{length_marked}
+use Rattle.feed.proofs.format.length_marked.Goals as goal
+
+pub returns-in-Of : goal.returns-in-Of
+returns-in-Of c = c.length_of.ensures ∙ sym (ap length_marked c.in-Of.is)

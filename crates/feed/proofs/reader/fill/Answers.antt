@@ -1,0 +1,211 @@
+-- `feed::reader::fill` meets its contract. The loop's invariant: filling the store on from what it holds, with the rest of the piece, ends
+-- as filling it from what was held at the start. The measure is what is left of the piece. Assumes nothing.
+use Rattle.std.proofs.Common.{◌≡◌, ℕ, ◌+◌, ◌-◌, ◌<◌, ◌≤◌, eqb, ltb, List, length, get_or, take, drop, set, sym, refl, ap, ◌∙◌, ⊎_elim, arith, length-take-le, rules, ltb-false}
+use borrow.Author.Tests.{eqb-false}
+use Rattle.bits.proofs.Yes.{or-none-left, or-none-right}
+use Rattle.feed.specs.Size.{store_length}
+use Rattle.feed.specs.Reader.{settle, store}
+use Rattle.feed.specs.Inside.Finding.{fills}
+use Rattle.feed.proofs.Reading.Fronts.{settle-short}
+use Rattle.feed.proofs.Reading.Stores.{length-store}
+use Rattle.feed.proofs.Reading.Turns.{Turn, turn-long, turn-fits, turn-count, turn_at, turn-stay, turn-gone}
+use Rattle.feed.proofs.Reading.Turns.{turn-over, turn-found, turn-room, turn_more}
+use Rattle.feed.proofs.Reading.Copies.{calm-room, turn-copy, part-long}
+use Rattle.feed.proofs.reader.fill.Goals as goal
+use Rattle.feed.proofs.reader.fill.Goals.{After-calm-k, After-row_known-in-loop-b-1, After-shared_slice_known-in-loop-b-1, Else-long-used, Joined-at-gt0}
+
+pub loop-b-init : goal.loop-b-init
+loop-b-init c =
+    let a = c.args in
+    let p = c.requires in
+    record {
+      held = take a.count a.b.now;
+      long = length-take-le a.count a.b.now (omega arith);
+      fits = omega arith;
+      stored = p.1.1;
+      on = omega arith;
+      within = p.1.2;
+      same = let z : a.from - a.from ≡ 0 = omega arith in rw z refl;
+    }
+
+pub slice_bounds-find_front-end : goal.slice_bounds-find_front-end
+slice_bounds-find_front-end c = turn-fits _ _ _ _ _ _ c.loop-b.invariant
+
+pub slice_bounds-find_front-end-in-loop-b : goal.slice_bounds-find_front-end-in-loop-b
+slice_bounds-find_front-end-in-loop-b c = turn-count _ _ _ _ _ _ c.loop-b.invariant
+
+pub slice_bounds-shift-end : goal.slice_bounds-shift-end
+slice_bounds-shift-end c = turn-fits _ _ _ _ _ _ c.loop-b.invariant
+
+pub slice_bounds-shift-end-then-at-gt0 : goal.slice_bounds-shift-end-then-at-gt0
+slice_bounds-shift-end-then-at-gt0 c = turn-count _ _ _ _ _ _ c.loop-b.invariant
+
+pub shift-requires : goal.shift-requires
+shift-requires c =
+    let t = c.loop-b.invariant in
+    let k = turn_at _ _ _ _ _ _ t _ c.find_front-f.ensures in
+    omega (arith, turn-count _ _ _ _ _ _ t)
+
+pub overflow_sub-n : goal.overflow_sub-n
+overflow_sub-n c =
+    turn_at _ _ _ _ _ _ c.loop-b.invariant _ c.find_front-f.ensures
+
+-- what this turn leaves of what was held
+abbrev left : goal.Joined-at-gt0 → List ℕ
+left c = settle c.loop-b.invariant.held
+
+-- where the arms meet: the store holds that, from its front
+joined : (c : goal.Joined-at-gt0) → (c.if-at-gt0.b ≡ store (left c)) × (c.if-at-gt0.n ≡ length (left c))
+joined c =
+    let t = c.loop-b.invariant in
+    let f = c.find_front-f.ensures in
+    ⊎_elim
+    (λ w. let g = turn-gone _ _ _ _ _ _ t _ f w.2.last.0 w.2.ensures in (w.5 ∙ g.0, w.6 ∙ g.1))
+    (λ w. let g = turn-stay _ _ _ _ _ _ t _ f w.0.left in (w.1 ∙ g.0, w.2 ∙ g.1))
+    c.if-at-gt0.branch
+
+-- the store stays as long as it is
+same : (c : goal.Joined-at-gt0) → length c.if-at-gt0.b ≡ store_length
+same c =
+    let t = c.loop-b.invariant in
+    let j = joined c in
+    let k = settle-short t.held in
+    ap length j.0 ∙ length-store (settle t.held) (omega (arith, t.long, t.fits))
+
+pub overflow_sub-used : goal.overflow_sub-used
+overflow_sub-used c = c.loop-b.invariant.on
+
+pub overflow_sub-result : goal.overflow_sub-result
+overflow_sub-result c = let o = c.if-n-used.true in omega arith
+
+pub shape_of-b-then-n-used : goal.shape_of-b-then-n-used
+shape_of-b-then-n-used c =
+    same (goal.at.shape_of-b-then-n-used c).Joined-at-gt0 ∙ sym c.requires.b_len
+
+-- no older byte is held
+pub returns-then-n-used : goal.returns-then-n-used
+returns-then-n-used c =
+    let j = joined (goal.at.returns-then-n-used c).Joined-at-gt0 in
+    turn-over _ _ _ _ _ _ c.loop-b.invariant _ c.find_front-f.ensures _ _ j.0 j.1 c.if-n-used.true
+
+pub shape_of-b-then-long-used : goal.shape_of-b-then-long-used
+shape_of-b-then-long-used c =
+    same (goal.at.shape_of-b-then-long-used c).Joined-at-gt0 ∙ sym c.requires.b_len
+
+-- one is, and a record is settled or the piece is used up
+pub returns-then-long-used : goal.returns-then-long-used
+returns-then-long-used c =
+    let j = joined (goal.at.returns-then-long-used c).Joined-at-gt0 in
+    turn-found _ _ _ _ _ _ c.loop-b.invariant _ c.find_front-f.ensures _ _ j.0 j.1 c.if-n-used.false
+    c.if-long-used.true
+
+-- a byte is there, and a place is free
+none : (c : goal.Else-long-used) → c.find_front-f.result.long ≤ 0
+none c =
+    ltb-false 0 c.find_front-f.result.long (or-none-left (ltb 0 c.find_front-f.result.long) _ c.if-long-used.false)
+
+more : (c : goal.Else-long-used)
+    → c.loop-b.used
+    < length c.args.piece.now
+more c =
+    let n = length c.args.piece.now in
+    let long = c.find_front-f.result.long in
+    let e = eqb-false c.loop-b.used n (or-none-right (ltb 0 long) (eqb c.loop-b.used n) c.if-long-used.false) in
+    omega (arith, c.loop-b.invariant.within)
+
+pub bounds-piece-used : goal.bounds-piece-used
+bounds-piece-used c = more (goal.at.bounds-piece-used c).Else-long-used
+
+room : (c : goal.Else-long-used) → c.if-at-gt0.n < store_length
+room c =
+    let j = joined c.before.before in
+    turn-room _ _ _ _ _ _ c.loop-b.invariant _ c.find_front-f.ensures _ _ j.0 j.1 (none c)
+
+pub bounds-b-n : goal.bounds-b-n
+bounds-b-n c =
+    let r = room (goal.at.bounds-b-n c).Else-long-used in
+    omega (arith, same (goal.at.bounds-b-n c).Joined-at-gt0)
+
+pub overflow_add-n : goal.overflow_add-n
+overflow_add-n c = let r = room (goal.at.overflow_add-n c).Else-long-used in omega arith
+
+abbrev used : goal.After-row_known-in-loop-b-1 → ℕ
+used c = c.loop-b.used
+
+-- the byte is taken
+taken : (c : goal.After-row_known-in-loop-b-1)
+    → Turn
+    (fills 0 (take c.args.count c.args.b.now) (drop c.args.from c.args.piece.now))
+    c.args.piece.now
+    c.args.from
+    (set c.if-at-gt0.b c.if-at-gt0.n (get_or c.args.piece.now (used c) 0))
+    (c.if-at-gt0.n + 1)
+    (used c + 1)
+taken c =
+    let j = joined PROJ10 in
+    turn_more _ _ _ _ _ _ c.loop-b.invariant _ c.find_front-f.ensures _ _ j.0 j.1 c.if-n-used.false (none left) (more left)
+
+-- an older byte is held still
+older : (c : goal.After-row_known-in-loop-b-1) → used c + 1 - c.args.from < c.if-at-gt0.n + 1
+older c = omega (arith, c.loop-b.invariant.on, c.if-n-used.false)
+
+pub slice_bounds-calm-end : goal.slice_bounds-calm-end
+slice_bounds-calm-end c = turn-fits _ _ _ _ _ _ (taken (goal.at.slice_bounds-calm-end c).After-row_known-in-loop-b-1)
+
+pub slice_bounds-calm-end-in-loop-b : goal.slice_bounds-calm-end-in-loop-b
+slice_bounds-calm-end-in-loop-b c = turn-count _ _ _ _ _ _ (taken (goal.at.slice_bounds-calm-end-in-loop-b c).After-shared_slice_known-in-loop-b-1)
+
+pub overflow_sub-piece : goal.overflow_sub-piece
+overflow_sub-piece c = (taken (goal.at.overflow_sub-piece c).After-shared_slice_known-in-loop-b-1).within
+
+-- the bytes that are taken with no look fit
+calmly : (c : goal.After-calm-k)
+    → (c.if-at-gt0.n + 1 + c.calm-k.result ≤ store_length)
+    × (used c.before.before + 1 + c.calm-k.result ≤ length c.args.piece.now)
+calmly c = calm-room _ _ _ _ _ _ _ (taken c.before.before) (older c.before.before) c.calm-k.ensures
+
+pub overflow_add-n-in-loop-b : goal.overflow_add-n-in-loop-b
+overflow_add-n-in-loop-b c = let r = calmly (goal.at.overflow_add-n-in-loop-b c).After-calm-k in omega arith
+
+pub slice_bounds-copy-count : goal.slice_bounds-copy-count
+slice_bounds-copy-count c = omega arith
+
+pub slice_bounds-copy-start : goal.slice_bounds-copy-start
+slice_bounds-copy-start c = omega arith
+
+pub slice_bounds-copy-end : goal.slice_bounds-copy-end
+slice_bounds-copy-end c = let r = calmly (goal.at.slice_bounds-copy-end c).After-calm-k in let e = turn-long _ _ _ _ _ _ (taken (goal.at.slice_bounds-copy-end c).After-shared_slice_known-in-loop-b-1) in omega arith
+
+pub overflow_add-used-in-loop-b : goal.overflow_add-used-in-loop-b
+overflow_add-used-in-loop-b c = let r = calmly (goal.at.overflow_add-used-in-loop-b c).After-calm-k in omega arith
+
+pub slice_bounds-copy-count-in-loop-b : goal.slice_bounds-copy-count-in-loop-b
+slice_bounds-copy-count-in-loop-b c = omega arith
+
+pub slice_bounds-copy-start-in-loop-b : goal.slice_bounds-copy-start-in-loop-b
+slice_bounds-copy-start-in-loop-b c = omega arith
+
+pub slice_bounds-copy-end-in-loop-b : goal.slice_bounds-copy-end-in-loop-b
+slice_bounds-copy-end-in-loop-b c = let r = calmly (goal.at.slice_bounds-copy-end-in-loop-b c).After-calm-k in omega arith
+
+pub copy-requires : goal.copy-requires
+copy-requires c =
+    let r = calmly (goal.at.copy-requires c).After-calm-k in
+    let e = turn-long _ _ _ _ _ _ (taken (goal.at.copy-requires c).After-shared_slice_known-in-loop-b-1) in
+    part-long _ (c.if-at-gt0.n + 1) c.calm-k.result (omega arith)
+    ∙ sym (part-long c.args.piece.now (used (goal.at.copy-requires c).After-shared_slice_known-in-loop-b-1 + 1) c.calm-k.result r.1)
+
+pub overflow_add-n-in-loop-b-2 : goal.overflow_add-n-in-loop-b-2
+overflow_add-n-in-loop-b-2 c = let r = calmly (goal.at.overflow_add-n-in-loop-b-2 c).After-calm-k in omega arith
+
+pub overflow_add-used-in-loop-b-2 : goal.overflow_add-used-in-loop-b-2
+overflow_add-used-in-loop-b-2 c = let r = calmly (goal.at.overflow_add-used-in-loop-b-2 c).After-calm-k in omega arith
+
+pub loop-b-smaller : goal.loop-b-smaller
+loop-b-smaller c = let r = calmly (goal.at.loop-b-smaller c).After-calm-k in omega arith
+
+pub loop-b-preserved : goal.loop-b-preserved
+loop-b-preserved c =
+    let k = c.copy in
+    turn-copy _ _ _ _ _ _ c.calm-k.result (taken (goal.at.loop-b-preserved c).After-shared_slice_known-in-loop-b-1) (older (goal.at.loop-b-preserved c).After-shared_slice_known-in-loop-b-1) c.calm-k.ensures k.new.0
+    k.ensures

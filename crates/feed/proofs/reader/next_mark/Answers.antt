@@ -1,0 +1,33 @@
+-- `feed::reader::next_mark` meets its contract. The invariant of both loops: the next mark from `at` on is the next from `from` on.
+-- Assumes nothing.
+use Rattle.std.proofs.Common.{◌≡◌, ◌-◌, true, length, take, drop, sym, ◌∙◌, arith, rules}
+use borrow.Author.Tests.{not-false}
+use native.Mathlib.Nat.{add-sub_cancel_left}
+use Rattle.feed.specs.Inside.Finding.{all_noise}
+use Rattle.feed.proofs.Reading.Noise.{NextMark, next_start, next-behind, next-other, next-found, next-none}
+use Rattle.feed.proofs.reader.next_mark.Goals as goal
+
+pub loop-at-init : goal.loop-at-init
+loop-at-init c = next_start _ _ c.requires
+
+pub loop-at-preserved : goal.loop-at-preserved
+loop-at-preserved c =
+    let piece = c.args.piece.now in
+    let at = c.loop-at.at in
+    let yes = not-false c.all_noise.result c.if-not-all_noise.false in
+    let e : all_noise (take 16 (drop at piece)) ≡ true = rw (add-sub_cancel_left at 16) at (sym c.all_noise.ensures ∙ yes) in
+    next-behind piece _ at c.loop-at.invariant 16 (omega arith) e
+
+pub loop-at-2-init : goal.loop-at-2-init
+loop-at-2-init c = c.loop-at.invariant
+
+pub returns-then-piece-at-eq-MARK : goal.returns-then-piece-at-eq-MARK
+returns-then-piece-at-eq-MARK c =
+    next-found _ _ _ c.loop-at-2.invariant (search rules) c.if-piece-at-eq-MARK.true
+
+pub loop-at-2-preserved : goal.loop-at-2-preserved
+loop-at-2-preserved c =
+    next-other _ _ _ c.loop-at-2.invariant (search rules) c.if-piece-at-eq-MARK.false
+
+pub returns : goal.returns
+returns c = next-none _ _ _ c.loop-at-2.invariant (search rules)

@@ -1,0 +1,154 @@
+-- `feed::reader::search` meets its contract. The loop's invariant: the store is as it was, and what is held and still to be read gives what
+-- was to be read at the start. Assumes nothing.
+use Rattle.std.proofs.Common.{◌≡◌, ℕ, ◌+◌, ◌-◌, ◌≤◌, ◌⊎◌, List, [], length, get_or, take, drop, sym, refl, ap, ◌∙◌, inl, inr, ⊎_elim, arith, length-drop, length-take-le, rules}
+use native.Mathlib.Nat.{add-sub_cancel_left}
+use Rattle.feed.specs.Size.{mark_byte}
+use Rattle.feed.specs.Format.{mark_of, length_of, good_kind, look}
+use Rattle.feed.specs.Reader.{store}
+use Rattle.feed.specs.Inside.Finding.{reads_on}
+use Rattle.feed.specs.declared.format.Kind.{Kind}
+use Rattle.feed.specs.declared.format.Mark.TheVariants.{Of}
+use Rattle.feed.specs.declared.format.Look.TheVariants.{Waits}
+use Rattle.feed.proofs.Reading.Noise.{noise-within}
+use Rattle.feed.proofs.Reading.Passing.{Passing, passing-start, passing-other, passing-no-mark, passing-lost}
+use Rattle.feed.proofs.Reading.Passing.{end-waits, one-waits, kind-waits, waiting-fits, waiting-found, held_found, here_found}
+use Rattle.feed.proofs.reader.search.Goals as goal
+use Rattle.feed.proofs.reader.search.Goals.{After-good, At-loop-at, Else-piece-at, Left-loop-at}
+
+pub loop-at-init : goal.loop-at-init
+loop-at-init c =
+    let p = c.requires.from_le_taken in
+    (refl, passing-start _ _ _ p.0 p.1 p.2)
+
+-- ---- a byte that cannot begin a mark, and a byte like that of a mark
+
+pub next_mark-at-requires : goal.next_mark-at-requires
+next_mark-at-requires c = omega arith
+
+pub loop-at-smaller-then-piece-at-ne-MARK : goal.loop-at-smaller-then-piece-at-ne-MARK
+loop-at-smaller-then-piece-at-ne-MARK c =
+    let piece = c.args.piece.now in
+    let n = noise-within (drop (c.loop-at.at + 1) piece) in
+    let d = length-drop (c.loop-at.at + 1) piece in
+    omega (arith, c.next_mark-at.ensures)
+
+pub loop-at-preserved-then-piece-at-ne-MARK : goal.loop-at-preserved-then-piece-at-ne-MARK
+loop-at-preserved-then-piece-at-ne-MARK c =
+    (c.loop-at.invariant.0, passing-other _ _ _ _ c.loop-at.invariant.1 (omega arith) c.if-piece-at-ne-MARK.true _ c.next_mark-at.ensures)
+
+pub loop-at-preserved-in-NoMark : goal.loop-at-preserved-in-NoMark
+loop-at-preserved-in-NoMark c =
+    let none = sym c.in-NoMark.is ∙ c.mark_of.ensures in
+    (c.loop-at.invariant.0, passing-no-mark _ _ _ _ c.loop-at.invariant.1 c.if-piece-at-ne-MARK.false c.if-piece-at-lt-MARK_LENGTH.false none)
+
+-- ---- the mark of a kind, and all bytes of its record
+
+abbrev piece : goal.Else-piece-at → List ℕ
+piece c = c.args.piece.now
+
+abbrev at : goal.Else-piece-at → ℕ
+at c = c.loop-at.at
+
+abbrev kind : goal.Else-piece-at → Kind
+kind c = c.in-Of.k
+
+first : (c : goal.Else-piece-at) → get_or (piece c) (at c) 0 ≡ mark_byte
+first c = c.if-piece-at-ne-MARK.false
+
+second : (c : goal.Else-piece-at) → Of (kind c) ≡ mark_of (get_or (piece c) (at c + 1) 0)
+second c = sym c.in-Of.is ∙ c.mark_of.ensures
+
+enough : (c : goal.Else-piece-at) → length_of (kind c) ≤ length (piece c) - at c
+enough c = rw c.length_of-long.ensures at c.if-piece-at.false
+
+pub good-requires : goal.good-requires
+good-requires c =
+    let e = enough (goal.at.good-requires c).Else-piece-at in
+    let n = length-drop (at (goal.at.good-requires c).Else-piece-at) (piece (goal.at.good-requires c).Else-piece-at) in
+    rw (add-sub_cancel_left (at (goal.at.good-requires c).Else-piece-at) c.length_of-long.result, c.length_of-long.ensures)
+    (let l = length-take-le (length_of (kind (goal.at.good-requires c).Else-piece-at)) (drop (at (goal.at.good-requires c).Else-piece-at) (piece (goal.at.good-requires c).Else-piece-at)) (omega arith) in omega arith)
+
+-- what is said of it
+abbrev full : tie.After-good2 invariant-loop decreases-loop → tie.Else3 invariant-loop decreases-loop
+full c = c.before.before
+
+judged : (c : tie.After-good2 invariant-loop decreases-loop)
+    → c.good2.result ≡ good_kind (kind (full c)) (take (length_of (kind (full c))) (drop (at (full c)) (piece (full c))))
+judged c =
+    let d = full c in
+    c.good2.ensures
+    ∙ ap (λ (n : ℕ). good_kind (kind d) (take n (drop (at d) (piece d)))) (add-sub_cancel_left (at d) _ ∙ d.before.length-of.ensures)
+
+-- the store is empty still
+empty : (c : goal.At-loop-at) → c.loop-at.b ≡ store []
+empty c = c.loop-at.invariant.0 ∙ c.requires.b_value
+
+pub hold-requires : goal.hold-requires
+hold-requires c =
+    let t = c.loop-at.invariant.1 in
+    record {
+      b_value = empty (goal.at.hold-requires c).At-loop-at;
+      at_le_end = (omega (arith, c.if-end-high.true), omega (arith, t.taken), omega (arith, t.fits));
+    }
+
+pub shape_of-b-then-end-high : goal.shape_of-b-then-end-high
+shape_of-b-then-end-high c =
+    c.hold.auto.b ∙ ap length c.loop-at.invariant.0
+
+pub returns-then-end-high : goal.returns-then-end-high
+returns-then-end-high c =
+    let held = c.hold.ensures in
+    rw held.0
+    (held_found _ _ _ _ c.loop-at.invariant.1 (first (goal.at.returns-then-end-high c).Else-piece-at) (kind (goal.at.returns-then-end-high c).Else-piece-at) (second (goal.at.returns-then-end-high c).Else-piece-at) (enough (goal.at.returns-then-end-high c).Else-piece-at) (sym (judged (goal.at.returns-then-end-high c).After-good) ∙ c.if-good.true) _
+    c.length_of-long.ensures c.if-end-high.true _ held.1)
+
+pub shape_of-b-then-good : goal.shape_of-b-then-good
+shape_of-b-then-good c = ap length c.loop-at.inv.0
+
+pub returns-then-good : goal.returns-then-good
+returns-then-good c =
+    here_found _ _ _ _ c.loop-at.invariant.1 (first (goal.at.returns-then-good c).Else-piece-at) (kind (goal.at.returns-then-good c).Else-piece-at) (second (goal.at.returns-then-good c).Else-piece-at) (enough (goal.at.returns-then-good c).Else-piece-at) (sym (judged (goal.at.returns-then-good c).After-good) ∙ c.if-good.true) _
+    c.length_of-long.ensures c.if-end-high.false _ (empty (goal.at.returns-then-good c).At-loop-at)
+
+pub loop-at-preserved : goal.loop-at-preserved
+loop-at-preserved c =
+    let n = c.length_of-long.ensures in
+    let w : (c.loop-at.high ≤ c.if-high-end.high) × (at (goal.at.loop-at-preserved c).Else-piece-at + length_of (kind (goal.at.loop-at-preserved c).Else-piece-at) ≤ c.if-high-end.high)
+    × ((c.if-high-end.high ≡ c.loop-at.high) ⊎ (c.if-high-end.high ≡ at (goal.at.loop-at-preserved c).Else-piece-at + length_of (kind (goal.at.loop-at-preserved c).Else-piece-at))) =
+    ⊎_elim
+    (λ w.
+    let e : c.if-high-end.high ≡ at (goal.at.loop-at-preserved c).Else-piece-at + length_of (kind (goal.at.loop-at-preserved c).Else-piece-at) = w.1 ∙ ap (λ (i : ℕ). at (goal.at.loop-at-preserved c).Else-piece-at + i) n in
+    (omega (arith, w.0.taken), omega arith, inr e))
+    (λ w. (omega (arith, w.0.left, w.1), omega (arith, w.0.left, w.1), inl w.1)) c.if-high-end.branch in (
+      c.loop-at.invariant.0,
+      passing-lost _ _ _ _ c.loop-at.invariant.1 (first (goal.at.loop-at-preserved c).Else-piece-at) (kind (goal.at.loop-at-preserved c).Else-piece-at) (second (goal.at.loop-at-preserved c).Else-piece-at) (enough (goal.at.loop-at-preserved c).Else-piece-at)
+          (sym (judged (goal.at.loop-at-preserved c).After-good) ∙ c.if-good.false) c.if-high-end.high w.0 w.1 w.2,
+    )
+
+-- ---- the reader waits
+
+waits : (c : goal.Left-loop-at)
+    → look (drop c.loop-at.at c.args.piece.now) ≡ Waits
+waits c =
+    let t = c.loop-at.invariant.1 in
+    ⊎_elim (λ w. end-waits _ _ w.left) (⊎_elim (λ w. one-waits _ _ _ _ t w.2.left w.3.taken) (λ w.
+    kind-waits _ _ _ _ t w.2.left w.7.given.0.0 (sym w.7.given.1 ∙ w.5.ensures) w.3.left
+    (rw w.9.ensures at w.10.taken)))
+    c.loop-at-test.branch
+
+pub hold-requires-2 : goal.hold-requires-2
+hold-requires-2 c =
+    let t = c.loop-at.invariant.1 in
+    let fits = waiting-fits _ _ _ _ t (waits (goal.at.hold-requires-2 c).Left-loop-at) in
+    record {
+      b_value = empty (goal.at.hold-requires-2 c).At-loop-at;
+      at_le_end = (omega (arith, t.within), omega (arith, t.within), omega arith);
+    }
+
+pub shape_of-b : goal.shape_of-b
+shape_of-b c = c.hold-2.auto.b ∙ ap length c.loop-at.invariant.0
+
+pub returns : goal.returns
+returns c =
+    let held = c.hold-2.ensures in
+    rw held.0 (waiting-found _ _ _ _ c.loop-at.invariant.1 (waits (goal.at.returns c).Left-loop-at) _ held.1)

@@ -1,0 +1,16 @@
+-- `feed::report::balance_of` meets its contract. Assumes nothing.
+use Rattle.std.proofs.Common.{◌≡◌, ℕ, ◌+◌, ◌-◌, ◌≤◌, List, get_or, add-one, rules}
+use Rattle.bits.specs.Bit.{with_bit}
+use Rattle.cycle.specs.Size.{module_count}
+use Rattle.cycle.specs.Banks.{no_bank}
+use Rattle.cycle.specs.declared.banks.Bank.{Bank}
+use Rattle.feed.specs.Size.{oxidizer_from}
+use Rattle.feed.specs.Report.{balance_of}
+use Rattle.cycle.proofs.Loops.{ended}
+use Rattle.feed.proofs.report.balance_of.Given as goal
+
+abbrev pub invariant-loop-m : goal.invariant-loop-m
+invariant-loop-m l = (l.m ≤ module_count) × (l.w ≡ balance_of l.m l.banks)
+
+abbrev pub decreases-loop-m : goal.decreases-loop-m
+decreases-loop-m l = module_count - l.m

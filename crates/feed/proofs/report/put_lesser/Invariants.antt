@@ -1,0 +1,13 @@
+-- `feed::report::put_lesser` meets its contract. Assumes nothing.
+use Rattle.std.proofs.Common.{◌+◌, ◌-◌, ◌*◌, refl, arith, rules}
+use Rattle.cycle.specs.Size.{module_count}
+use Rattle.feed.specs.Size.{lesser_from, lesser_length}
+use Rattle.feed.specs.Report.{word_shown, words_bytes}
+use Rattle.feed.proofs.Reports.Written.{put-part, Putting, putting-none, putting-next, putting-end}
+use Rattle.feed.proofs.report.put_lesser.Given as goal
+
+abbrev pub invariant-loop-m : goal.invariant-loop-m
+invariant-loop-m l = Putting l.initial.out lesser_from lesser_length module_count (word_shown (λ b. b.lesser) l.banks) l.out l.m
+
+abbrev pub decreases-loop-m : goal.decreases-loop-m
+decreases-loop-m l = module_count - l.m

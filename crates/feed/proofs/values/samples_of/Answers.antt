@@ -1,0 +1,17 @@
+-- `feed::values::samples_of` meets its contract. Assumes nothing.
+use Rattle.std.proofs.Common.{◌+◌, ◌-◌, ◌*◌, refl, rules}
+use Rattle.cycle.specs.Size.{string_count}
+use Rattle.feed.specs.Size.{samples_from, sample_length}
+use Rattle.feed.specs.Values.{sample_at, samples_of}
+use Rattle.feed.proofs.Records.Tables.{Filling, filling-none, filling-next, filling-end}
+use Rattle.feed.proofs.values.samples_of.Goals as goal
+
+pub loop-k-preserved : goal.loop-k-preserved
+loop-k-preserved c = filling-next _ _ _ _ _ _ refl c.loop-k.invariant c.loop-k-test.true c.sample_at.ensures
+
+pub returns : goal.returns
+unfolding samples_of
+returns c = filling-end _ _ _ _ _ refl c.loop-k.invariant c.loop-k-test.false
+
+pub loop-k-init : goal.loop-k-init
+loop-k-init c = filling-none _ _ _

@@ -1,0 +1,17 @@
+-- `feed::values::temperatures_at` meets its contract. Assumes nothing.
+use Rattle.std.proofs.Common.{◌+◌, ◌-◌, ◌*◌, refl, ap, rules}
+use Rattle.feed.specs.Size.{temperature_count, temperature_length}
+use Rattle.feed.specs.Bytes.{two}
+use Rattle.feed.specs.Values.{words_at}
+use Rattle.feed.proofs.Records.Tables.{Filling, filling-none, filling-next, filling-end}
+use Rattle.feed.proofs.values.temperatures_at.Goals as goal
+
+pub loop-k-preserved : goal.loop-k-preserved
+loop-k-preserved c = filling-next _ _ _ _ _ _ refl c.loop-k.invariant c.loop-k-test.true c.two_at.ensures
+
+pub returns : goal.returns
+unfolding words_at
+returns c = ap (λ w. record { words = w }) (filling-end _ _ _ _ _ refl c.loop-k.invariant c.loop-k-test.false)
+
+pub loop-k-init : goal.loop-k-init
+loop-k-init c = filling-none _ _ _
