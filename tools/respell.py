@@ -14,6 +14,8 @@ CAMEL = re.compile(r"(?<![\w'’])[a-z][a-z0-9]*(?:[A-Z][a-z0-9]*)+(?!\w)")
 FOREIGN = {"pthreads"}
 # facts that were spelled as functions
 FACTS = {"saidOver": "SaidOver", "inMask": "InMask"}
+# a type that was spelled with a dash
+TYPES = {"Ran-by": "RanBy"}
 
 
 def snake(word):
@@ -30,6 +32,13 @@ texts = {p: p.read_text(encoding="utf-8") for p in code}
 camel = {w for t in texts.values() for w in CAMEL.findall(t)} - FOREIGN
 declared = {w for p, t in texts.items() if p.suffix == ".antt" for w in re.findall(r"(?m)^ *(?:\w+ )*?([^\s:(){}]+)(?: \{[^{}\n]*\})* :", t)}
 
+
+def respelled(t):
+    for old, new in TYPES.items():
+        t = whole(old).sub(new, t)
+    return CAMEL.sub(lambda m: snake(m[0]) if m[0] in camel else m[0], t)
+
+
 # a lemma that is already spelled as a definition will be: it and those that cite it
 meets = {snake(w) for w in camel if snake(w) != w and snake(w) in declared}
 for p, t in texts.items():
@@ -38,7 +47,7 @@ for p, t in texts.items():
             # a folder of a function's proof keeps the function's name
             if not re.search(rf"proofs[\w.«»]*\.«?{w}»?\b", t):
                 t = whole(w).sub(w + "_lem", t)
-    texts[p] = CAMEL.sub(lambda m: snake(m[0]) if m[0] in camel else m[0], t)
+    texts[p] = respelled(t)
 
 for p, t in texts.items():
     if t != p.read_text(encoding="utf-8"):
@@ -50,6 +59,6 @@ for p in sorted(words):
     if not p.is_file():
         continue
     t = p.read_text(encoding="utf-8")
-    new = CAMEL.sub(lambda m: snake(m[0]) if m[0] in camel else m[0], t)
+    new = respelled(t)
     if new != t:
         p.write_text(new, encoding="utf-8")

@@ -100,7 +100,7 @@ abbrev pub runs : ℕ → Monitor → List ℕ → Reported
 runs room m piece = runs_within room room m piece
 
 -- what the function gives back, and the outbox: the reports, and behind them what was there
-pub record Ran-by (x : Reported) (out : List ℕ) (r : Ran) (after : List ℕ) : Type 0 where
+pub record RanBy (x : Reported) (out : List ℕ) (r : Ran) (after : List ℕ) : Type 0 where
   pub used : r.used ≡ x.used
   pub written : r.written ≡ length x.reports
   pub more : r.more ≡ x.more

@@ -3,7 +3,7 @@ ghost use Rattle.std.specs.Prelude.{◌≡◌, ◌+◌, ◌≤◌, true, false, 
 ghost use Rattle.feed.specs.Size.{store_length, most_held, outbox_needed};
 ghost use Rattle.feed.specs.Reader.{store};
 ghost use Rattle.feed.specs.Step.{is_whole, step_of};
-ghost use Rattle.feed.specs.Call.{call, started_over, runs, Ran-by};
+ghost use Rattle.feed.specs.Call.{call, started_over, runs, RanBy};
 ghost use Rattle.feed.specs.Masks.{started_from};
 ghost use Rattle.feed.specs.Inside.Turn.{found_in, left_count, left_bytes, Turn};
 
@@ -215,7 +215,7 @@ impl Monitor {
     // Calls, one after the other, each with the rest of the outbox, until one settles nothing or there is no room for a call. Where nothing
     // is under way, first a stretch of calm minor records, then a calm major one; any other goes the long way.
     pub fn run(self, piece: &[u8], out: &mut [u8]) -> Ran
-        ensures { Ran-by (runs (length out.old) self piece.now) out.old result out.new }
+        ensures { RanBy (runs (length out.old) self piece.now) out.old result out.new }
     {
         if out.len() < OUTBOX_NEEDED {
             return Ran {

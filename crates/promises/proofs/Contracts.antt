@@ -5,7 +5,7 @@ use lib.ListN.{length}
 use Rattle.cycle.specs.Hall.{stepped}
 use Rattle.cycle.specs.Records.{minor, major}
 use Rattle.feed.specs.Step.{step_of}
-use Rattle.feed.specs.Call.{started_over, call, runs, Ran-by}
+use Rattle.feed.specs.Call.{started_over, call, runs, RanBy}
 use Rattle.feed.specs.Masks.{started_from}
 use Rattle.writer.specs.Write.{wrote, write}
 use Rattle.promises.specs.Outcomes.{Says, AsksNothing}
@@ -79,7 +79,7 @@ pub call-is : Says monitor-call.ended monitor-call.Reads.Post
 call-is κs a x w p = λ i. record { outcome = p.0 i; outbox = p.1 i }
 
 pub run_is : Says monitor-run.ended monitor-run.Reads.Post
-    (λ κs a x w. Ran-by (runs (length a.1.1.0.now) a.0 a.1.0.now) a.1.1.0.now x w.1.1.0)
+    (λ κs a x w. RanBy (runs (length a.1.1.0.now) a.0 a.1.0.now) a.1.1.0.now x w.1.1.0)
 run_is κs a x w p = p
 
 pub minor-is : Says hall-minor.ended hall-minor.Reads.Post (λ κs a x w. x ≡ stepped (minor a.1.0) a.0)

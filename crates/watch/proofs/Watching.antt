@@ -7,7 +7,7 @@ use Rattle.cycle.specs.Hall.{started}
 use Rattle.cycle.specs.declared.answer.Answer.TheVariants.{MapRefused}
 use Rattle.feed.specs.Size.{map_length, outbox_needed}
 use Rattle.feed.specs.Masks.{masks_of_bytes, started_from}
-use Rattle.feed.specs.Call.{started_over, Reported, runs, Ran-by}
+use Rattle.feed.specs.Call.{started_over, Reported, runs, RanBy}
 use Rattle.feed.specs.Calls.{Made, monitor_after, Hands, starts}
 use Rattle.feed.specs.Batch.{all_reports, LastAlone, Continues}
 use Rattle.feed.specs.declared.call.Monitor.{Monitor}
@@ -119,7 +119,7 @@ module _ (start m : Monitor) (turns fed told at n : ℕ) (input out : List ℕ) 
   piece = take (n - at) (drop at input)
 
   module _ (w : Watched start m turns fed told piece) (enough : outbox_needed ≤ length out)
-      (ran : Ran-by (runs (length out) m piece) out r after) where
+      (ran : RanBy (runs (length out) m piece) out r after) where
     -- what a run wrote into the outbox is what it reported
     pub reported : ReportedFor start m turns fed told piece (take r.written after)
     reported =

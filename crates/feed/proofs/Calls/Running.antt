@@ -6,7 +6,7 @@ use Rattle.cycle.specs.declared.hall.Hall.{Hall}
 use Rattle.feed.specs.Size.{store_length, most_held, report_length, outbox_needed}
 use Rattle.feed.specs.Reader.{store}
 use Rattle.feed.specs.Call.{holds, holding, Result, called, Reported, reported_full, reported_then, reported_last}
-use Rattle.feed.specs.Call.{runs_within, runs, Ran-by}
+use Rattle.feed.specs.Call.{runs_within, runs, RanBy}
 use Rattle.feed.specs.Inside.Turn.{Turns}
 use Rattle.feed.specs.declared.call.Monitor.{Monitor}
 use Rattle.feed.specs.declared.call.Outcome.{Outcome}
@@ -92,7 +92,7 @@ module _ (m : Monitor) (piece out₀ : List ℕ) (hall : Hall) (b : List ℕ) (c
 
   -- no room for a call is left
   pub loop-ends : length out - written < outbox_needed
-      → Ran-by (runs (length out₀) m piece) out₀
+      → RanBy (runs (length out₀) m piece) out₀
       (record { used = used; written = written; more = true; monitor = monitor_at hall b count }) out
   loop-ends l =
       let n : length out₀ - written < outbox_needed = omega (arith, out-long) in
@@ -150,7 +150,7 @@ module _ (m : Monitor) (piece out₀ : List ℕ) (hall : Hall) (b : List ℕ) (c
 
     -- nothing was settled
     pub loop-leaves : r.settled ≡ false
-        → Ran-by (runs (length out₀) m piece) out₀
+        → RanBy (runs (length out₀) m piece) out₀
         (record { used = r.used; written = written; more = false; monitor = monitor_at r.hall b' r.count }) (take written out ++ o)
     unfolding c
     loop-leaves e =
@@ -210,7 +210,7 @@ module _ (m : Monitor) (piece out₀ : List ℕ) (hall : Hall) (b : List ℕ) (c
 
 -- there is no room for a call at all
 pub no_room : (m : Monitor) (piece out : List ℕ) → length out < outbox_needed
-    → Ran-by (runs (length out) m piece) out (record { used = 0; written = 0; more = true; monitor = m }) out
+    → RanBy (runs (length out) m piece) out (record { used = 0; written = 0; more = true; monitor = m }) out
 no_room m piece out l =
     rw (runs-full (length out) (length out) m piece l)
     (record { used = refl; written = refl; more = refl; monitor = refl; outbox = refl })
@@ -236,7 +236,7 @@ runs-start m b n piece out room x =
     ∙ ap (λ (i : ℕ). runs_within i (length out) m piece) (sym k)
 
 -- no more of the outbox is written than there is, its length being kept
-pub written-within : (x : Reported) (out : List ℕ) (r : Ran) (after : List ℕ) → Ran-by x out r after → length after ≡ length out
+pub written-within : (x : Reported) (out : List ℕ) (r : Ran) (after : List ℕ) → RanBy x out r after → length after ≡ length out
     → r.written ≤ length out
 written-within x out r after b e =
     let l = sym e ∙ ap length b.outbox ∙ length-append x.reports (drop (length x.reports) out) in

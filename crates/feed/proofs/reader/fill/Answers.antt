@@ -12,7 +12,7 @@ use Rattle.feed.proofs.Reading.Turns.{Turn, turn-long, turn-fits, turn-count, tu
 use Rattle.feed.proofs.Reading.Turns.{turn-over, turn-found, turn-room, turn_more}
 use Rattle.feed.proofs.Reading.Copies.{calm-room, turn-copy, part-long}
 use Rattle.feed.proofs.reader.fill.Goals as goal
-use Rattle.feed.proofs.reader.fill.Goals.{After-calm-k, After-row_known-in-loop-b-1, After-shared_slice_known-in-loop-b-1, Else-long-used, Joined-at-gt0}
+use Rattle.feed.proofs.reader.fill.Goals.{then-at-gt0, else-at-gt0, After-calm-k, After-row_known-in-loop-b-1, Else-long-used, Joined-at-gt0}
 
 pub loop-b-init : goal.loop-b-init
 loop-b-init c =
@@ -22,9 +22,9 @@ loop-b-init c =
       held = take a.count a.b.now;
       long = length-take-le a.count a.b.now (omega arith);
       fits = omega arith;
-      stored = p.1.1;
+      stored = p.count_le_most_held.1;
       on = omega arith;
-      within = p.1.2;
+      within = p.count_le_most_held.2;
       same = let z : a.from - a.from ≡ 0 = omega arith in rw z refl;
     }
 
@@ -59,10 +59,10 @@ joined : (c : goal.Joined-at-gt0) → (c.if-at-gt0.b ≡ store (left c)) × (c.i
 joined c =
     let t = c.loop-b.invariant in
     let f = c.find_front-f.ensures in
-    ⊎_elim
-    (λ w. let g = turn-gone _ _ _ _ _ _ t _ f w.2.last.0 w.2.ensures in (w.5 ∙ g.0, w.6 ∙ g.1))
-    (λ w. let g = turn-stay _ _ _ _ _ _ t _ f w.0.left in (w.1 ∙ g.0, w.2 ∙ g.1))
-    c.if-at-gt0.branch
+    elim c.if-at-gt0.branch [
+      | then-at-gt0 w ↦ let g = turn-gone _ _ _ _ _ _ t _ f w.shift.new.s w.shift.ensures in (w.b-is ∙ g.0, w.n-is ∙ g.1)
+      | else-at-gt0 w ↦ let g = turn-stay _ _ _ _ _ _ t _ f w.if-at-gt0.false in (w.b-is ∙ g.0, w.n-is ∙ g.1)
+    ]
 
 -- the store stays as long as it is
 same : (c : goal.Joined-at-gt0) → length c.if-at-gt0.b ≡ store_length
@@ -86,7 +86,8 @@ shape_of-b-then-n-used c =
 pub returns-then-n-used : goal.returns-then-n-used
 returns-then-n-used c =
     let j = joined (goal.at.returns-then-n-used c).Joined-at-gt0 in
-    turn-over _ _ _ _ _ _ c.loop-b.invariant _ c.find_front-f.ensures _ _ j.0 j.1 c.if-n-used.true
+    let g = turn-over _ _ _ _ _ _ c.loop-b.invariant _ c.find_front-f.ensures _ _ j.0 j.1 c.if-n-used.true in
+    record { value = g.0; b_after = g.1 }
 
 pub shape_of-b-then-long-used : goal.shape_of-b-then-long-used
 shape_of-b-then-long-used c =
@@ -96,8 +97,8 @@ shape_of-b-then-long-used c =
 pub returns-then-long-used : goal.returns-then-long-used
 returns-then-long-used c =
     let j = joined (goal.at.returns-then-long-used c).Joined-at-gt0 in
-    turn-found _ _ _ _ _ _ c.loop-b.invariant _ c.find_front-f.ensures _ _ j.0 j.1 c.if-n-used.false
-    c.if-long-used.true
+    let g = turn-found _ _ _ _ _ _ c.loop-b.invariant _ c.find_front-f.ensures _ _ j.0 j.1 c.if-n-used.false c.if-long-used.true in
+    record { value = g.0; b_after = g.1 }
 
 -- a byte is there, and a place is free
 none : (c : goal.Else-long-used) → c.find_front-f.result.long ≤ 0
@@ -116,56 +117,59 @@ more c =
 pub bounds-piece-used : goal.bounds-piece-used
 bounds-piece-used c = more (goal.at.bounds-piece-used c).Else-long-used
 
-room : (c : goal.Else-long-used) → c.if-at-gt0.n < store_length
-room c =
-    let j = joined c.before.before in
+room : (c : goal.Else-long-used) → (c.if-at-gt0.b ≡ store (settle c.loop-b.invariant.held)) × (c.if-at-gt0.n ≡ length (settle c.loop-b.invariant.held))
+    → c.if-at-gt0.n < store_length
+room c j =
     turn-room _ _ _ _ _ _ c.loop-b.invariant _ c.find_front-f.ensures _ _ j.0 j.1 (none c)
 
 pub bounds-b-n : goal.bounds-b-n
 bounds-b-n c =
-    let r = room (goal.at.bounds-b-n c).Else-long-used in
+    let r = room (goal.at.bounds-b-n c).Else-long-used (joined (goal.at.bounds-b-n c).Joined-at-gt0) in
     omega (arith, same (goal.at.bounds-b-n c).Joined-at-gt0)
 
 pub overflow_add-n : goal.overflow_add-n
-overflow_add-n c = let r = room (goal.at.overflow_add-n c).Else-long-used in omega arith
-
-abbrev used : goal.After-row_known-in-loop-b-1 → ℕ
-used c = c.loop-b.used
+overflow_add-n c = let r = room (goal.at.overflow_add-n c).Else-long-used (joined (goal.at.overflow_add-n c).Joined-at-gt0) in omega arith
 
 -- the byte is taken
-taken : (c : goal.After-row_known-in-loop-b-1)
+taken : (c : goal.After-row_known-in-loop-b-1) → (c.if-at-gt0.b ≡ store (settle c.loop-b.invariant.held)) × (c.if-at-gt0.n ≡ length (settle c.loop-b.invariant.held))
+    → c.find_front-f.result.long ≤ 0 → c.loop-b.used < length c.args.piece.now
     → Turn
     (fills 0 (take c.args.count c.args.b.now) (drop c.args.from c.args.piece.now))
     c.args.piece.now
     c.args.from
-    (set c.if-at-gt0.b c.if-at-gt0.n (get_or c.args.piece.now (used c) 0))
+    (set c.if-at-gt0.b c.if-at-gt0.n (get_or c.args.piece.now c.loop-b.used 0))
     (c.if-at-gt0.n + 1)
-    (used c + 1)
-taken c =
-    let j = joined PROJ10 in
-    turn_more _ _ _ _ _ _ c.loop-b.invariant _ c.find_front-f.ensures _ _ j.0 j.1 c.if-n-used.false (none left) (more left)
+    (c.loop-b.used + 1)
+taken c j n m =
+    turn_more _ _ _ _ _ _ c.loop-b.invariant _ c.find_front-f.ensures _ _ j.0 j.1 c.if-n-used.false n m
 
 -- an older byte is held still
-older : (c : goal.After-row_known-in-loop-b-1) → used c + 1 - c.args.from < c.if-at-gt0.n + 1
+older : (c : goal.After-row_known-in-loop-b-1) → c.loop-b.used + 1 - c.args.from < c.if-at-gt0.n + 1
 older c = omega (arith, c.loop-b.invariant.on, c.if-n-used.false)
 
 pub slice_bounds-calm-end : goal.slice_bounds-calm-end
-slice_bounds-calm-end c = turn-fits _ _ _ _ _ _ (taken (goal.at.slice_bounds-calm-end c).After-row_known-in-loop-b-1)
+slice_bounds-calm-end c = turn-fits _ _ _ _ _ _ (taken (goal.at.slice_bounds-calm-end c).After-row_known-in-loop-b-1 (joined (goal.at.slice_bounds-calm-end c).Joined-at-gt0) (none (goal.at.slice_bounds-calm-end c).Else-long-used) (more (goal.at.slice_bounds-calm-end c).Else-long-used))
 
 pub slice_bounds-calm-end-in-loop-b : goal.slice_bounds-calm-end-in-loop-b
-slice_bounds-calm-end-in-loop-b c = turn-count _ _ _ _ _ _ (taken (goal.at.slice_bounds-calm-end-in-loop-b c).After-shared_slice_known-in-loop-b-1)
+slice_bounds-calm-end-in-loop-b c = turn-count _ _ _ _ _ _ (taken (goal.at.slice_bounds-calm-end-in-loop-b c).After-row_known-in-loop-b-1 (joined (goal.at.slice_bounds-calm-end-in-loop-b c).Joined-at-gt0) (none (goal.at.slice_bounds-calm-end-in-loop-b c).Else-long-used) (more (goal.at.slice_bounds-calm-end-in-loop-b c).Else-long-used))
 
 pub overflow_sub-piece : goal.overflow_sub-piece
-overflow_sub-piece c = (taken (goal.at.overflow_sub-piece c).After-shared_slice_known-in-loop-b-1).within
+overflow_sub-piece c = (taken (goal.at.overflow_sub-piece c).After-row_known-in-loop-b-1 (joined (goal.at.overflow_sub-piece c).Joined-at-gt0) (none (goal.at.overflow_sub-piece c).Else-long-used) (more (goal.at.overflow_sub-piece c).Else-long-used)).within
 
 -- the bytes that are taken with no look fit
-calmly : (c : goal.After-calm-k)
+calmly : (c : goal.After-calm-k) → Turn
+    (fills 0 (take c.args.count c.args.b.now) (drop c.args.from c.args.piece.now))
+    c.args.piece.now
+    c.args.from
+    (set c.if-at-gt0.b c.if-at-gt0.n (get_or c.args.piece.now c.loop-b.used 0))
+    (c.if-at-gt0.n + 1)
+    (c.loop-b.used + 1)
     → (c.if-at-gt0.n + 1 + c.calm-k.result ≤ store_length)
-    × (used c.before.before + 1 + c.calm-k.result ≤ length c.args.piece.now)
-calmly c = calm-room _ _ _ _ _ _ _ (taken c.before.before) (older c.before.before) c.calm-k.ensures
+    × (c.loop-b.used + 1 + c.calm-k.result ≤ length c.args.piece.now)
+calmly c t = calm-room _ _ _ _ _ _ _ t (omega (arith, c.loop-b.invariant.on, c.if-n-used.false)) c.calm-k.ensures
 
 pub overflow_add-n-in-loop-b : goal.overflow_add-n-in-loop-b
-overflow_add-n-in-loop-b c = let r = calmly (goal.at.overflow_add-n-in-loop-b c).After-calm-k in omega arith
+overflow_add-n-in-loop-b c = let r = calmly (goal.at.overflow_add-n-in-loop-b c).After-calm-k (taken (goal.at.overflow_add-n-in-loop-b c).After-row_known-in-loop-b-1 (joined (goal.at.overflow_add-n-in-loop-b c).Joined-at-gt0) (none (goal.at.overflow_add-n-in-loop-b c).Else-long-used) (more (goal.at.overflow_add-n-in-loop-b c).Else-long-used)) in omega arith
 
 pub slice_bounds-copy-count : goal.slice_bounds-copy-count
 slice_bounds-copy-count c = omega arith
@@ -174,10 +178,10 @@ pub slice_bounds-copy-start : goal.slice_bounds-copy-start
 slice_bounds-copy-start c = omega arith
 
 pub slice_bounds-copy-end : goal.slice_bounds-copy-end
-slice_bounds-copy-end c = let r = calmly (goal.at.slice_bounds-copy-end c).After-calm-k in let e = turn-long _ _ _ _ _ _ (taken (goal.at.slice_bounds-copy-end c).After-shared_slice_known-in-loop-b-1) in omega arith
+slice_bounds-copy-end c = let r = calmly (goal.at.slice_bounds-copy-end c).After-calm-k (taken (goal.at.slice_bounds-copy-end c).After-row_known-in-loop-b-1 (joined (goal.at.slice_bounds-copy-end c).Joined-at-gt0) (none (goal.at.slice_bounds-copy-end c).Else-long-used) (more (goal.at.slice_bounds-copy-end c).Else-long-used)) in let e = turn-long _ _ _ _ _ _ (taken (goal.at.slice_bounds-copy-end c).After-row_known-in-loop-b-1 (joined (goal.at.slice_bounds-copy-end c).Joined-at-gt0) (none (goal.at.slice_bounds-copy-end c).Else-long-used) (more (goal.at.slice_bounds-copy-end c).Else-long-used)) in omega arith
 
 pub overflow_add-used-in-loop-b : goal.overflow_add-used-in-loop-b
-overflow_add-used-in-loop-b c = let r = calmly (goal.at.overflow_add-used-in-loop-b c).After-calm-k in omega arith
+overflow_add-used-in-loop-b c = let r = calmly (goal.at.overflow_add-used-in-loop-b c).After-calm-k (taken (goal.at.overflow_add-used-in-loop-b c).After-row_known-in-loop-b-1 (joined (goal.at.overflow_add-used-in-loop-b c).Joined-at-gt0) (none (goal.at.overflow_add-used-in-loop-b c).Else-long-used) (more (goal.at.overflow_add-used-in-loop-b c).Else-long-used)) in omega arith
 
 pub slice_bounds-copy-count-in-loop-b : goal.slice_bounds-copy-count-in-loop-b
 slice_bounds-copy-count-in-loop-b c = omega arith
@@ -186,26 +190,26 @@ pub slice_bounds-copy-start-in-loop-b : goal.slice_bounds-copy-start-in-loop-b
 slice_bounds-copy-start-in-loop-b c = omega arith
 
 pub slice_bounds-copy-end-in-loop-b : goal.slice_bounds-copy-end-in-loop-b
-slice_bounds-copy-end-in-loop-b c = let r = calmly (goal.at.slice_bounds-copy-end-in-loop-b c).After-calm-k in omega arith
+slice_bounds-copy-end-in-loop-b c = let r = calmly (goal.at.slice_bounds-copy-end-in-loop-b c).After-calm-k (taken (goal.at.slice_bounds-copy-end-in-loop-b c).After-row_known-in-loop-b-1 (joined (goal.at.slice_bounds-copy-end-in-loop-b c).Joined-at-gt0) (none (goal.at.slice_bounds-copy-end-in-loop-b c).Else-long-used) (more (goal.at.slice_bounds-copy-end-in-loop-b c).Else-long-used)) in omega arith
 
 pub copy-requires : goal.copy-requires
 copy-requires c =
-    let r = calmly (goal.at.copy-requires c).After-calm-k in
-    let e = turn-long _ _ _ _ _ _ (taken (goal.at.copy-requires c).After-shared_slice_known-in-loop-b-1) in
+    let r = calmly (goal.at.copy-requires c).After-calm-k (taken (goal.at.copy-requires c).After-row_known-in-loop-b-1 (joined (goal.at.copy-requires c).Joined-at-gt0) (none (goal.at.copy-requires c).Else-long-used) (more (goal.at.copy-requires c).Else-long-used)) in
+    let e = turn-long _ _ _ _ _ _ (taken (goal.at.copy-requires c).After-row_known-in-loop-b-1 (joined (goal.at.copy-requires c).Joined-at-gt0) (none (goal.at.copy-requires c).Else-long-used) (more (goal.at.copy-requires c).Else-long-used)) in
     part-long _ (c.if-at-gt0.n + 1) c.calm-k.result (omega arith)
-    ∙ sym (part-long c.args.piece.now (used (goal.at.copy-requires c).After-shared_slice_known-in-loop-b-1 + 1) c.calm-k.result r.1)
+    ∙ sym (part-long c.args.piece.now (c.loop-b.used + 1) c.calm-k.result r.1)
 
 pub overflow_add-n-in-loop-b-2 : goal.overflow_add-n-in-loop-b-2
-overflow_add-n-in-loop-b-2 c = let r = calmly (goal.at.overflow_add-n-in-loop-b-2 c).After-calm-k in omega arith
+overflow_add-n-in-loop-b-2 c = let r = calmly (goal.at.overflow_add-n-in-loop-b-2 c).After-calm-k (taken (goal.at.overflow_add-n-in-loop-b-2 c).After-row_known-in-loop-b-1 (joined (goal.at.overflow_add-n-in-loop-b-2 c).Joined-at-gt0) (none (goal.at.overflow_add-n-in-loop-b-2 c).Else-long-used) (more (goal.at.overflow_add-n-in-loop-b-2 c).Else-long-used)) in omega arith
 
 pub overflow_add-used-in-loop-b-2 : goal.overflow_add-used-in-loop-b-2
-overflow_add-used-in-loop-b-2 c = let r = calmly (goal.at.overflow_add-used-in-loop-b-2 c).After-calm-k in omega arith
+overflow_add-used-in-loop-b-2 c = let r = calmly (goal.at.overflow_add-used-in-loop-b-2 c).After-calm-k (taken (goal.at.overflow_add-used-in-loop-b-2 c).After-row_known-in-loop-b-1 (joined (goal.at.overflow_add-used-in-loop-b-2 c).Joined-at-gt0) (none (goal.at.overflow_add-used-in-loop-b-2 c).Else-long-used) (more (goal.at.overflow_add-used-in-loop-b-2 c).Else-long-used)) in omega arith
 
 pub loop-b-smaller : goal.loop-b-smaller
-loop-b-smaller c = let r = calmly (goal.at.loop-b-smaller c).After-calm-k in omega arith
+loop-b-smaller c = let r = calmly (goal.at.loop-b-smaller c).After-calm-k (taken (goal.at.loop-b-smaller c).After-row_known-in-loop-b-1 (joined (goal.at.loop-b-smaller c).Joined-at-gt0) (none (goal.at.loop-b-smaller c).Else-long-used) (more (goal.at.loop-b-smaller c).Else-long-used)) in omega arith
 
 pub loop-b-preserved : goal.loop-b-preserved
 loop-b-preserved c =
     let k = c.copy in
-    turn-copy _ _ _ _ _ _ c.calm-k.result (taken (goal.at.loop-b-preserved c).After-shared_slice_known-in-loop-b-1) (older (goal.at.loop-b-preserved c).After-shared_slice_known-in-loop-b-1) c.calm-k.ensures k.new.0
+    turn-copy _ _ _ _ _ _ c.calm-k.result (taken (goal.at.loop-b-preserved c).After-row_known-in-loop-b-1 (joined (goal.at.loop-b-preserved c).Joined-at-gt0) (none (goal.at.loop-b-preserved c).Else-long-used) (more (goal.at.loop-b-preserved c).Else-long-used)) (older (goal.at.loop-b-preserved c).After-row_known-in-loop-b-1) c.calm-k.ensures k.new.to
     k.ensures

@@ -4,23 +4,23 @@ use Rattle.feed.specs.Reader.{store}
 use Rattle.feed.proofs.Reading.Stores.{length-store}
 use Rattle.feed.proofs.Reading.Finding.{Ready, ready-none, ready-finds, filled-finds, count-within, cleared-empty, filled-ready}
 use Rattle.feed.proofs.reader.find.Goals as goal
-use Rattle.feed.proofs.reader.find.Goals.{Else-f, Joined-count-gt0}
+use Rattle.feed.proofs.reader.find.Goals.{then-count-gt0+else-f, else-count-gt0, Joined-count-gt0}
 
 pub returns-then-f : goal.returns-then-f
 returns-then-f c =
     let e = c.fill-f.ensures in
-    filled-finds _ _ _ c.requires.count_le_most_held.2 _ _ e.0 e.1 c.if-f.true
+    filled-finds _ _ _ c.requires.count_le_most_held.2 _ _ e.value e.b_after c.if-f.true
 
 pub slice_bounds-clear-end : goal.slice_bounds-clear-end
 slice_bounds-clear-end c =
     let e = c.fill-f.ensures in
     let n = c.fill-f.auto.b ∙ c.requires.b_len in
-    let m = count-within _ _ _ c.requires.count_le_most_held.2 _ _ e.0 e.1 n in
+    let m = count-within _ _ _ c.requires.count_le_most_held.2 _ _ e.value e.b_after n in
     omega arith
 
 pub slice_bounds-clear-end-then-count-gt0 : goal.slice_bounds-clear-end-then-count-gt0
 slice_bounds-clear-end-then-count-gt0 c =
-    sym (length-take-le c.fill-f.result.count c.fill-f.new.b (slice_bounds-clear-end (goal.at.slice_bounds-clear-end-then-count-gt0 c).Else-f))
+    sym (length-take-le c.fill-f.result.count c.fill-f.new.b (let e = c.fill-f.ensures in let n = c.fill-f.auto.b ∙ c.requires.b_len in let m = count-within _ _ _ c.requires.count_le_most_held.2 _ _ e.value e.b_after n in omega arith))
 
 -- where the arms meet: the store is empty, and the search in the piece can begin
 joined : (c : goal.Joined-count-gt0)
@@ -34,18 +34,18 @@ joined : (c : goal.Joined-count-gt0)
 joined c =
     let a = c.args in
     let p = c.requires.count_le_most_held in
-    ⊎_elim
-    (λ w.
-    let e = w.2.ensures in
-    let n = w.2.kept.0 ∙ c.requires.b_len in (
-      w.10 ∙ cleared-empty _ _ _ p.2 _ _ e.0 e.1 n w.7.last.0 w.7.ensures,
-      rw (w.11, w.12) (filled-ready _ _ _ p.2 _ _ e.0 e.1 n w.5.left),
-    ))
-    (λ w.
-    let z : a.count ≡ 0 = omega (arith, w.0.left) in
-    let none : take a.count a.b.now ≡ [] = ap (λ (n : ℕ). take n a.b.now) z in
-    (w.1 ∙ p.1 ∙ ap store none, rw (w.2, w.3) (ready-none _ _ _ none p.2)))
-    c.if-count-gt0.branch
+    elim c.if-count-gt0.branch [
+      | then-count-gt0+else-f w ↦
+          let e = w.fill-f.ensures in
+          let n = w.fill-f.auto.b ∙ c.requires.b_len in (
+            w.b-is ∙ cleared-empty _ _ _ p.2 _ _ e.value e.b_after n w.clear.new.s w.clear.ensures,
+            rw (w.at-is, w.taken-is) (filled-ready _ _ _ p.2 _ _ e.value e.b_after n w.if-f.false),
+          )
+      | else-count-gt0 w ↦
+          let z : a.count ≡ 0 = omega (arith, w.if-count-gt0.false) in
+          let none : take a.count a.b.now ≡ [] = ap (λ (n : ℕ). take n a.b.now) z in
+          (w.b-is ∙ p.1 ∙ ap store none, rw (w.at-is, w.taken-is) (ready-none _ _ _ none p.2))
+    ]
 
 pub search-requires : goal.search-requires
 search-requires c =

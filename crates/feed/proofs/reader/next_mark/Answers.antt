@@ -1,7 +1,6 @@
 -- `feed::reader::next_mark` meets its contract. The invariant of both loops: the next mark from `at` on is the next from `from` on.
 -- Assumes nothing.
 use Rattle.std.proofs.Common.{◌≡◌, ◌-◌, true, length, take, drop, sym, ◌∙◌, arith, rules}
-use borrow.Author.Tests.{not-false}
 use native.Mathlib.Nat.{add-sub_cancel_left}
 use Rattle.feed.specs.Inside.Finding.{all_noise}
 use Rattle.feed.proofs.Reading.Noise.{NextMark, next_start, next-behind, next-other, next-found, next-none}
@@ -14,7 +13,7 @@ pub loop-at-preserved : goal.loop-at-preserved
 loop-at-preserved c =
     let piece = c.args.piece.now in
     let at = c.loop-at.at in
-    let yes = not-false c.all_noise.result c.if-not-all_noise.false in
+    let yes = c.if-not-all_noise.false in
     let e : all_noise (take 16 (drop at piece)) ≡ true = rw (add-sub_cancel_left at 16) at (sym c.all_noise.ensures ∙ yes) in
     next-behind piece _ at c.loop-at.invariant 16 (omega arith) e
 

@@ -13,7 +13,7 @@ use Rattle.feed.proofs.Reading.Noise.{noise-within}
 use Rattle.feed.proofs.Reading.Passing.{Passing, passing-start, passing-other, passing-no-mark, passing-lost}
 use Rattle.feed.proofs.Reading.Passing.{end-waits, one-waits, kind-waits, waiting-fits, waiting-found, held_found, here_found}
 use Rattle.feed.proofs.reader.search.Goals as goal
-use Rattle.feed.proofs.reader.search.Goals.{After-good, At-loop-at, Else-piece-at, Left-loop-at}
+use Rattle.feed.proofs.reader.search.Goals.{then-high-end, else-high-end, else-loop-at-test, then-loop-at-test+else-piece-at-ne-MARK+then-piece-at-lt-MARK_LENGTH, then-loop-at-test+else-piece-at-ne-MARK+else-piece-at-lt-MARK_LENGTH+in-Of+then-piece-at, After-good, At-loop-at, Else-piece-at, Left-loop-at}
 
 pub loop-at-init : goal.loop-at-init
 loop-at-init c =
@@ -69,15 +69,12 @@ good-requires c =
     (let l = length-take-le (length_of (kind (goal.at.good-requires c).Else-piece-at)) (drop (at (goal.at.good-requires c).Else-piece-at) (piece (goal.at.good-requires c).Else-piece-at)) (omega arith) in omega arith)
 
 -- what is said of it
-abbrev full : tie.After-good2 invariant-loop decreases-loop → tie.Else3 invariant-loop decreases-loop
-full c = c.before.before
-
-judged : (c : tie.After-good2 invariant-loop decreases-loop)
-    → c.good2.result ≡ good_kind (kind (full c)) (take (length_of (kind (full c))) (drop (at (full c)) (piece (full c))))
+judged : (c : goal.After-good)
+    → c.good.result ≡ good_kind c.in-Of.k (take (length_of c.in-Of.k) (drop c.loop-at.at c.args.piece.now))
 judged c =
-    let d = full c in
-    c.good2.ensures
-    ∙ ap (λ (n : ℕ). good_kind (kind d) (take n (drop (at d) (piece d)))) (add-sub_cancel_left (at d) _ ∙ d.before.length-of.ensures)
+    c.good.ensures
+    ∙ ap (λ (n : ℕ). good_kind c.in-Of.k (take n (drop c.loop-at.at c.args.piece.now)))
+    (add-sub_cancel_left c.loop-at.at _ ∙ c.length_of-long.ensures)
 
 -- the store is empty still
 empty : (c : goal.At-loop-at) → c.loop-at.b ≡ store []
@@ -98,12 +95,12 @@ shape_of-b-then-end-high c =
 pub returns-then-end-high : goal.returns-then-end-high
 returns-then-end-high c =
     let held = c.hold.ensures in
-    rw held.0
+    rw held.value
     (held_found _ _ _ _ c.loop-at.invariant.1 (first (goal.at.returns-then-end-high c).Else-piece-at) (kind (goal.at.returns-then-end-high c).Else-piece-at) (second (goal.at.returns-then-end-high c).Else-piece-at) (enough (goal.at.returns-then-end-high c).Else-piece-at) (sym (judged (goal.at.returns-then-end-high c).After-good) ∙ c.if-good.true) _
-    c.length_of-long.ensures c.if-end-high.true _ held.1)
+    c.length_of-long.ensures c.if-end-high.true _ held.b_after)
 
 pub shape_of-b-then-good : goal.shape_of-b-then-good
-shape_of-b-then-good c = ap length c.loop-at.inv.0
+shape_of-b-then-good c = ap length c.loop-at.invariant.0
 
 pub returns-then-good : goal.returns-then-good
 returns-then-good c =
@@ -113,13 +110,15 @@ returns-then-good c =
 pub loop-at-preserved : goal.loop-at-preserved
 loop-at-preserved c =
     let n = c.length_of-long.ensures in
-    let w : (c.loop-at.high ≤ c.if-high-end.high) × (at (goal.at.loop-at-preserved c).Else-piece-at + length_of (kind (goal.at.loop-at-preserved c).Else-piece-at) ≤ c.if-high-end.high)
-    × ((c.if-high-end.high ≡ c.loop-at.high) ⊎ (c.if-high-end.high ≡ at (goal.at.loop-at-preserved c).Else-piece-at + length_of (kind (goal.at.loop-at-preserved c).Else-piece-at))) =
-    ⊎_elim
-    (λ w.
-    let e : c.if-high-end.high ≡ at (goal.at.loop-at-preserved c).Else-piece-at + length_of (kind (goal.at.loop-at-preserved c).Else-piece-at) = w.1 ∙ ap (λ (i : ℕ). at (goal.at.loop-at-preserved c).Else-piece-at + i) n in
-    (omega (arith, w.0.taken), omega arith, inr e))
-    (λ w. (omega (arith, w.0.left, w.1), omega (arith, w.0.left, w.1), inl w.1)) c.if-high-end.branch in (
+    let end = c.loop-at.at + length_of c.in-Of.k in
+    let w : (c.loop-at.high ≤ c.if-high-end.high) × (end ≤ c.if-high-end.high)
+        × ((c.if-high-end.high ≡ c.loop-at.high) ⊎ (c.if-high-end.high ≡ end)) =
+        elim c.if-high-end.branch [
+          | then-high-end w ↦
+              let e : c.if-high-end.high ≡ end = w.high-is ∙ ap (λ (i : ℕ). c.loop-at.at + i) n in
+              (omega (arith, w.if-high-end.true), omega arith, inr e)
+          | else-high-end w ↦ (omega arith, omega (arith, w.if-high-end.false, w.high-is), inl w.high-is)
+        ] in (
       c.loop-at.invariant.0,
       passing-lost _ _ _ _ c.loop-at.invariant.1 (first (goal.at.loop-at-preserved c).Else-piece-at) (kind (goal.at.loop-at-preserved c).Else-piece-at) (second (goal.at.loop-at-preserved c).Else-piece-at) (enough (goal.at.loop-at-preserved c).Else-piece-at)
           (sym (judged (goal.at.loop-at-preserved c).After-good) ∙ c.if-good.false) c.if-high-end.high w.0 w.1 w.2,
@@ -131,10 +130,15 @@ waits : (c : goal.Left-loop-at)
     → look (drop c.loop-at.at c.args.piece.now) ≡ Waits
 waits c =
     let t = c.loop-at.invariant.1 in
-    ⊎_elim (λ w. end-waits _ _ w.left) (⊎_elim (λ w. one-waits _ _ _ _ t w.2.left w.3.taken) (λ w.
-    kind-waits _ _ _ _ t w.2.left w.7.given.0.0 (sym w.7.given.1 ∙ w.5.ensures) w.3.left
-    (rw w.9.ensures at w.10.taken)))
-    c.loop-at-test.branch
+    elim c.loop-at-test.branch [
+      | else-loop-at-test w ↦ end-waits _ _ w.loop-at-test.false
+      | then-loop-at-test+else-piece-at-ne-MARK+then-piece-at-lt-MARK_LENGTH w ↦
+          one-waits _ _ _ _ t w.if-piece-at-ne-MARK.false w.if-piece-at-lt-MARK_LENGTH.true
+      | then-loop-at-test+else-piece-at-ne-MARK+else-piece-at-lt-MARK_LENGTH+in-Of+then-piece-at w ↦
+          kind-waits _ _ _ _ t w.if-piece-at-ne-MARK.false w.in-Of.k (sym w.in-Of.is ∙ w.mark_of.ensures)
+          w.if-piece-at-lt-MARK_LENGTH.false
+          (rw w.length_of-long.ensures at w.if-piece-at.true)
+    ]
 
 pub hold-requires-2 : goal.hold-requires-2
 hold-requires-2 c =
@@ -151,4 +155,4 @@ shape_of-b c = c.hold-2.auto.b ∙ ap length c.loop-at.invariant.0
 pub returns : goal.returns
 returns c =
     let held = c.hold-2.ensures in
-    rw held.0 (waiting-found _ _ _ _ c.loop-at.invariant.1 (waits (goal.at.returns c).Left-loop-at) _ held.1)
+    rw held.value (waiting-found _ _ _ _ c.loop-at.invariant.1 (waits (goal.at.returns c).Left-loop-at) _ held.b_after)

@@ -2,52 +2,42 @@
 use Rattle.std.proofs.Common.{◌≡◌, ℕ, ◌-◌, ◌≤◌, List, length, sym, ◌∙◌, arith, rules, lt-ltb}
 use borrow.Rule.Slice.PartMut.{put_mid}
 use Rattle.feed.specs.Size.{store_length, most_held}
+use Rattle.feed.specs.Reader.{held_count}
 use Rattle.feed.specs.Call.{call}
 use Rattle.feed.proofs.Calls.Calling.{InOrder, put-in-order, held-short, call-called, called-in-order, turned-outcome}
 use Rattle.feed.proofs.call.Monitor.call.Goals as goal
-use Rattle.feed.proofs.call.Monitor.call.Goals.{After-clear, After-held_count-n, Start}
-
--- the store has its length
-held-long : (c : goal.Start) → length c.args.self.held ≡ store_length
-held-long c = search rules
-
-held-few : (c : goal.After-held_count-n) → c.held_count-n.result ≤ most_held
-held-few c = rw c.held_count-n.ensures (held-short c.args.self.count)
-
-abbrev kept : goal.After-clear → ℕ
-kept c = c.held_count-n.result
-
-abbrev cleared : goal.After-clear → List ℕ
-cleared c = put_mid (kept c) (store_length - kept c) c.args.self.held c.clear.new.s
-
-ordered : (c : goal.After-clear) → InOrder c.args.self.count c.args.self.held (cleared c) (kept c)
-ordered c =
-    put-in-order c.args.self.count c.args.self.held (kept c) c.clear.new.s (held-long PROJ4)
-    c.held_count-n.ensures
-    c.clear.ensures
 
 pub returns-then-out-lt-OUTBOX_NEEDED : goal.returns-then-out-lt-OUTBOX_NEEDED
 unfolding call
 returns-then-out-lt-OUTBOX_NEEDED c = record {
-      value = rw (lt-ltb _ _ c.if-out-lt-OUTBOX_NEEDED.true);
-      out_after = rw (lt-ltb _ _ c.if-out-lt-OUTBOX_NEEDED.true);
-    }
+  value = rw (lt-ltb _ _ c.if-out-lt-OUTBOX_NEEDED.true);
+  out_after = rw (lt-ltb _ _ c.if-out-lt-OUTBOX_NEEDED.true);
+}
+
+-- no more is held than the store has room for
+few : (count claimed : ℕ) → count ≡ held_count claimed → count ≤ most_held
+few count claimed e = rw e (held-short claimed)
 
 pub slice_bounds-clear-count : goal.slice_bounds-clear-count
-slice_bounds-clear-count c = let few = held-few (goal.at.slice_bounds-clear-count c).After-held_count-n in omega arith
+slice_bounds-clear-count c = omega (arith, few _ _ c.held_count-n.ensures)
 
 pub slice_bounds-b-start : goal.slice_bounds-b-start
-slice_bounds-b-start c = let few = held-few (goal.at.slice_bounds-b-start c).After-held_count-n in omega arith
+slice_bounds-b-start c = omega (arith, few _ _ c.held_count-n.ensures)
 
 pub slice_bounds-b-end : goal.slice_bounds-b-end
-slice_bounds-b-end c = omega (arith, held-long (goal.at.slice_bounds-b-end c).Start)
+slice_bounds-b-end c = let long : length c.args.self.held ≡ store_length = search rules in omega arith
 
 pub slice_bounds-turn-end : goal.slice_bounds-turn-end
-slice_bounds-turn-end c = sym (ordered (goal.at.slice_bounds-turn-end c).After-clear).long
+slice_bounds-turn-end c =
+    let m = c.args.self in
+    let long : length m.held ≡ store_length = search rules in
+    sym (put-in-order m.count m.held c.held_count-n.result c.clear.new.s long c.held_count-n.ensures c.clear.ensures).long
 
 pub turn-t-requires : goal.turn-t-requires
 turn-t-requires c =
-    let x = ordered (goal.at.turn-t-requires c).After-clear in
+    let m = c.args.self in
+    let long : length m.held ≡ store_length = search rules in
+    let x = put-in-order m.count m.held c.held_count-n.result c.clear.new.s long c.held_count-n.ensures c.clear.ensures in
     record {
       b_len = x.long;
       count_le_most_held = (x.short, x.order);
@@ -57,8 +47,10 @@ turn-t-requires c =
 pub returns : goal.returns
 returns c =
     let a = c.args in
-    let e =
-    call-called a.self a.piece.now a.out.now c.if-out-lt-OUTBOX_NEEDED.false
-    ∙ sym (called-in-order a.self _ a.piece.now a.out.now (ordered (goal.at.returns c).After-clear).same) in
+    let m = a.self in
+    let long : length m.held ≡ store_length = search rules in
+    let x = put-in-order m.count m.held c.held_count-n.result c.clear.new.s long c.held_count-n.ensures c.clear.ensures in
+    let e = call-called m a.piece.now a.out.now c.if-out-lt-OUTBOX_NEEDED.false
+    ∙ sym (called-in-order m _ a.piece.now a.out.now x.same) in
     let t = c.turn-t.ensures in
-    rw e (turned-outcome _ c.turn-t.result _ _ t, t.outbox)
+    record { value = rw e (turned-outcome _ c.turn-t.result _ _ t); out_after = rw e t.outbox }
