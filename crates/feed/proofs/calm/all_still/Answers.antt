@@ -1,5 +1,5 @@
 -- `feed::calm::all_still` meets its contract. Assumes nothing.
-use Rattle.std.proofs.Common.{◌≡◌, ℕ, ◌-◌, ◌<◌, ◌≤◌, Bool, ◌&&◌, eqb, get_or, refl, ap, ◌∙◌, ap₂, not-suc-le-zero, add-one, arith, rules}
+use Rattle.std.proofs.Common.{◌≡◌, Bool, ◌&&◌, eqb, get_or, refl, ap, ◌∙◌, ap₂, not-suc-le-zero, add-one, arith, rules}
 use Rattle.bits.specs.Bit.{every}
 use Rattle.cycle.specs.Size.{string_count}
 use Rattle.cycle.specs.Hall.{no_requests, past_string}

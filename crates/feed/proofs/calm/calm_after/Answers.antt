@@ -1,5 +1,5 @@
 -- `feed::calm::calm_after` meets its contract. Assumes nothing.
-use Rattle.std.proofs.Common.{◌≡◌, Bool, true, false, ◌&&◌, eqb, sym, refl, ◌∙◌, ap₂, rules}
+use Rattle.std.proofs.Common.{◌≡◌, Bool, true, false, ◌&&◌, eqb, sym, refl, ◌∙◌, ap₂}
 use Rattle.bits.proofs.Yes.{not-both}
 use Rattle.cycle.specs.Size.{string_count}
 use Rattle.cycle.specs.Answers.{is_taken}

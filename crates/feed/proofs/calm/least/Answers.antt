@@ -1,6 +1,5 @@
 -- `feed::calm::least` meets its contract. Assumes nothing.
 use Rattle.std.proofs.Common.{arith, le-ltb, lt-ltb}
-use Rattle.std.proofs.Common.{rules}
 use Rattle.feed.proofs.calm.least.Goals as goal
 
 pub returns-then-a-b : goal.returns-then-a-b

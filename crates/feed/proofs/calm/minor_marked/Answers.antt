@@ -1,5 +1,5 @@
 -- `feed::calm::minor_marked` meets its contract: two bytes are a number, the low one first. Assumes nothing.
-use Rattle.std.proofs.Common.{◌≡◌, ℕ, ◌+◌, ◌*◌, ◌/◌, ◌%◌, ◌&&◌, eqb, ◌∙◌, ap₂, arith, rules, eq-eqb, eqb-true}
+use Rattle.std.proofs.Common.{◌≡◌, ℕ, ◌+◌, ◌*◌, ◌/◌, ◌%◌, ◌&&◌, eqb, ◌∙◌, ap₂, arith, eq-eqb, eqb-true}
 use Rattle.bits.proofs.Yes.{and_left, and_right, and_both, same-yes}
 use Rattle.feed.specs.Size.{mark_byte, minor_mark}
 use Rattle.feed.proofs.calm.minor_marked.Goals as goal

@@ -1,5 +1,5 @@
 -- `feed::calm::minors_ahead` meets its contract. Assumes nothing.
-use Rattle.std.proofs.Common.{◌-◌, arith, rules, le-ltb, lt-ltb}
+use Rattle.std.proofs.Common.{◌-◌, arith, le-ltb, lt-ltb}
 use Rattle.cycle.specs.Size.{last_count, major_every}
 use Rattle.feed.specs.Inside.Calm.{minors_ahead}
 use Rattle.feed.proofs.calm.minors_ahead.Goals as goal

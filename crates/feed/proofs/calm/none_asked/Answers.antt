@@ -1,9 +1,9 @@
 -- `feed::calm::none_asked` meets its contract. Assumes nothing.
-use Rattle.std.proofs.Common.{◌≡◌, ◌+◌, ◌-◌, ◌≤◌, eqb, get_or, rules}
+use Rattle.std.proofs.Common.{◌+◌, eqb, get_or, rules}
 use Rattle.bits.specs.Bit.{every}
 use Rattle.bits.proofs.Every.{every_more}
 use Rattle.cycle.proofs.Loops.{ended}
-use Rattle.feed.specs.Size.{requests_from, quantities_from}
+use Rattle.feed.specs.Size.{requests_from}
 use Rattle.feed.specs.Inside.Calm.{none_asked}
 use Rattle.feed.proofs.calm.none_asked.Goals as goal
 

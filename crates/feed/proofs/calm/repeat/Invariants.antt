@@ -1,7 +1,6 @@
 -- `feed::calm::repeat` meets its contract. The loop's invariant: the first i bytes of the report are written again. Assumes nothing.
-use Rattle.std.proofs.Common.{◌≡◌, ◌+◌, ◌-◌, ◌≤◌, ◌++◌, length, take, drop, refl, ◌∙◌, arith, length-set, rules}
+use Rattle.std.proofs.Common.{◌≡◌, ◌+◌, ◌-◌, ◌≤◌, ◌++◌, length, take, drop}
 use Rattle.feed.specs.Size.{report_length}
-use Rattle.feed.proofs.Reports.Repeats.{again-none, again-next, again-all}
 use Rattle.feed.proofs.calm.repeat.Given as goal
 
 abbrev pub invariant-loop-i : goal.invariant-loop-i

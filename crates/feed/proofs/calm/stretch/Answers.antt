@@ -1,5 +1,5 @@
 -- `feed::calm::stretch` meets its contract. Assumes nothing.
-use Rattle.std.proofs.Common.{◌-◌, ◌∙◌, ap₂, arith, rules, le-ltb, lt-ltb}
+use Rattle.std.proofs.Common.{◌∙◌, ap₂, arith, le-ltb, lt-ltb}
 use Rattle.feed.specs.Size.{outbox_needed}
 use Rattle.feed.specs.Inside.Calm.{least, stretch}
 use Rattle.feed.proofs.calm.stretch.Goals as goal

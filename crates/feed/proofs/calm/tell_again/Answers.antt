@@ -1,5 +1,5 @@
 -- `feed::calm::tell_again` meets its contract. Assumes nothing.
-use Rattle.std.proofs.Common.{◌≡◌, ℕ, ◌+◌, List, length, take, refl, ap, ◌∙◌, arith, length-append, length-take-le, rules}
+use Rattle.std.proofs.Common.{◌≡◌, ℕ, ◌+◌, List, length, take, refl, ap, ◌∙◌, arith, length-append, length-take-le}
 use borrow.Rule.Slice.PartMut.{put_mid}
 use Rattle.feed.specs.Size.{count_at, count_length, strings_from, report_length}
 use Rattle.feed.specs.Bytes.{in_four}

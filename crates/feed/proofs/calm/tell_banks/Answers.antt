@@ -1,5 +1,5 @@
 -- `feed::calm::tell_banks` meets its contract. Assumes nothing.
-use Rattle.std.proofs.Common.{◌≡◌, ℕ, ◌+◌, ◌-◌, List, [], ◌++◌, length, take, drop, ap, ◌∙◌, ap₂, append-nil, arith, length-append, length-drop, drop_of_length-le, length-take-le, take_at, drop_at, rules}
+use Rattle.std.proofs.Common.{◌≡◌, ℕ, ◌+◌, ◌-◌, List, [], ◌++◌, length, take, drop, ap, ◌∙◌, ap₂, append-nil, arith, length-append, length-drop, drop_of_length-le, length-take-le, take_at, drop_at}
 use borrow.Rule.Slice.PartMut.{put_mid}
 use Rattle.cycle.specs.declared.banks.Bank.{Bank}
 use Rattle.feed.specs.Size.{count_at, strings_from, balance_at, report_length}
@@ -47,5 +47,5 @@ returns c =
     let again = c.tell_again in
     let s = c.args.s.now in
     let banks-put = c.put_banks in
-    told (take report_length s) c.args.n c.args.banks again.new.0 banks-put.new.0
+    told (take report_length s) c.args.n c.args.banks again.new.s banks-put.new.out
     (length-take-le report_length s (omega (arith, c.requires))) again.ensures banks-put.ensures

@@ -1,5 +1,4 @@
 -- `feed::calm::turned_sample` meets its contract. Assumes nothing.
-use Rattle.std.proofs.Common.{◌≡◌, rules}
 use Rattle.feed.proofs.calm.turned_sample.Goals as goal
 
 pub returns : goal.returns

@@ -1,7 +1,6 @@
 -- `feed::calm::turned_words` meets its contract. Assumes nothing.
-use Rattle.std.proofs.Common.{◌≡◌, ℕ, ◌-◌, ◌^◌, ◌<◌, ◌≤◌, List, get_or, sym, refl, ap, ◌∙◌, not-suc-le-zero, arith, rules}
+use Rattle.std.proofs.Common.{◌≡◌, ℕ, ◌^◌, ◌<◌, List, get_or, sym, refl, ap, ◌∙◌, not-suc-le-zero, arith, rules}
 use Rattle.bits.specs.Bit.{word_bits}
-use Rattle.cycle.specs.Size.{string_count}
 use Rattle.cycle.specs.Each.{each}
 use Rattle.cycle.proofs.Each.{each-above}
 use Rattle.cycle.proofs.Loops.{turned as stored, ended}

@@ -1,13 +1,9 @@
 -- `feed::calm::turned_words` meets its contract. Assumes nothing.
-use Rattle.std.proofs.Common.{◌≡◌, ℕ, ◌-◌, ◌^◌, ◌<◌, ◌≤◌, List, get_or, sym, refl, ap, ◌∙◌, not-suc-le-zero, arith, rules}
+use Rattle.std.proofs.Common.{◌≡◌, ℕ, ◌-◌, ◌^◌, ◌<◌, ◌≤◌, get_or}
 use Rattle.bits.specs.Bit.{word_bits}
 use Rattle.cycle.specs.Size.{string_count}
 use Rattle.cycle.specs.Each.{each}
-use Rattle.cycle.proofs.Each.{each-above}
-use Rattle.cycle.proofs.Loops.{turned as stored, ended}
 use Rattle.feed.specs.Inside.LowFirst.{turned}
-use Rattle.feed.specs.Inside.Calm.{turned_words}
-use Rattle.feed.proofs.Records.TurnedWords.{below_next}
 use Rattle.feed.proofs.calm.turned_words.Given as goal
 
 abbrev pub invariant-loop-s : goal.invariant-loop-s

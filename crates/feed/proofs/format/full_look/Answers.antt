@@ -4,11 +4,10 @@ use Rattle.feed.specs.Format.{row_of, length_of, good_kind, full_look}
 use Rattle.feed.specs.declared.format.Kind.{Kind}
 use Rattle.feed.specs.declared.format.Look.TheVariants.{Loses, Settles}
 use Rattle.feed.proofs.format.full_look.Goals as goal
-use Rattle.feed.proofs.format.full_look.Goals.{After-length_of}
 
 pub returns-then-s-length_of : goal.returns-then-s-length_of
 returns-then-s-length_of c =
-    simp (lt-ltb _ _ (rw c.length_of.ensures (goal.at.returns-then-s-length_of c).After-length_of c.if-s-length_of.true))
+    simp (lt-ltb _ _ (rw c.length_of.ensures at c.if-s-length_of.true))
 
 pub good_minor-requires : goal.good_minor-requires
 unfolding row_of

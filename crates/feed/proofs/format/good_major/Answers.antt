@@ -1,11 +1,9 @@
 -- `feed::format::good_major` meets its contract: what is left without the last span is right where the sum is, and only there.
 -- Assumes nothing.
 use Rattle.std.proofs.Common.{◌≡◌, ℕ, ◌&&◌, List, sym, ◌∙◌, arith, length-take-le, rules}
-use borrow.Author.Tests.{not-true, not-false}
 use Rattle.feed.specs.Format.{reserved_zero, quantities_right, good_major}
 use Rattle.feed.proofs.Records.Sums.{rest-right, rest-of-right, major-sum, major-bad, major-reserved}
 use Rattle.feed.proofs.format.good_major.Goals as goal
-use Rattle.feed.proofs.format.good_major.Goals.{After-sum, After-wrapping_sub_u16-rest}
 
 -- where the last span begins
 abbrev last : ℕ
@@ -14,25 +12,21 @@ last = 585
 pub returns-then-not-reserved_zero : goal.returns-then-not-reserved_zero
 returns-then-not-reserved_zero c = major-reserved _ (sym c.reserved_zero.ensures ∙ c.if-not-reserved_zero.true)
 
--- where the last span is taken off: the bytes
-abbrev bytes : goal.After-wrapping_sub_u16-rest → List ℕ
-bytes c = c.args.s.now
-
 pub slice_bounds-sum_by_spans-end : goal.slice_bounds-sum_by_spans-end
-slice_bounds-sum_by_spans-end c = sym (length-take-le last (bytes (goal.at.slice_bounds-sum_by_spans-end c).After-sum) (omega arith))
+slice_bounds-sum_by_spans-end c = sym (length-take-le last c.args.s.now (omega arith))
 
 pub returns-then-rest-sum_by_spans : goal.returns-then-rest-sum_by_spans
 returns-then-rest-sum_by_spans c =
-    let only = rest-of-right (bytes (goal.at.returns-then-rest-sum_by_spans c).After-sum) last 32 _ _ _ c.sum.ensures
-    (c.wrapping_sub_u16-rest.ensures ∙ c.two_at.ensures) c.wrapping_sub_u16-rest.type-inv in
-    major-bad (bytes (goal.at.returns-then-rest-sum_by_spans c).After-sum) (λ e. c.if-rest-sum_by_spans.true (only e ∙ sym c.sum_by_spans.ensures))
+    let only = rest-of-right c.args.s.now last 32 _ _ _ c.sum.ensures
+    (c.wrapping_sub_u16-rest.ensures.value ∙ c.two_at.ensures) c.wrapping_sub_u16-rest.type_inv in
+    major-bad c.args.s.now (λ e. c.if-rest-sum_by_spans.true (only e ∙ sym c.sum_by_spans.ensures))
 
 pub returns : goal.returns
 returns c =
-    let l : List ℕ = bytes (goal.at.returns c).After-sum in
+    let l : List ℕ = c.args.s.now in
     let right = rest-right l last 32 _ _ _ c.sum.ensures
-    (c.wrapping_sub_u16-rest.ensures ∙ c.two_at.ensures)
+    (c.wrapping_sub_u16-rest.ensures.value ∙ c.two_at.ensures)
     (c.if-rest-sum_by_spans.false ∙ c.sum_by_spans.ensures) in
     let e : (reserved_zero l && quantities_right l) ≡ good_major l = major-sum l right in
     c.quantities_right.ensures
-    ∙ (simp (sym c.reserved_zero.ensures ∙ not-false _ c.if-not-reserved_zero.false) at e)
+    ∙ (simp (sym c.reserved_zero.ensures ∙ c.if-not-reserved_zero.false) at e)

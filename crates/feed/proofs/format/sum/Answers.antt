@@ -12,7 +12,7 @@ pub loop-i-preserved : goal.loop-i-preserved
 loop-i-preserved c =
     (
       search rules,
-      c.wrapping_add_u16-t.ensures
+      c.wrapping_add_u16-t.ensures.value
           ∙ ap₂ (λ t b. (t + b) % 2 ^ 16) c.loop-i.invariant.1 c.wide16.ensures.0
           ∙ sum_more c.args.s.now c.loop-i.i c.loop-i-test.true,
     )

@@ -15,10 +15,10 @@ loop-at-preserved c =
     let s = c.args.s.now in
     let at = c.loop-at.at in
     let part = c.sum.ensures ∙ ap (λ (n : ℕ). sum_of (take n (drop at s))) (add-sub_cancel_left at 64) in
-    (omega arith, c.wrapping_add_u16-t.ensures ∙ ap₂ (λ t b. (t + b) % 2 ^ 16) c.loop-at.invariant.1 part ∙ sum-span s at 64)
+    (omega arith, c.wrapping_add_u16-t.ensures.value ∙ ap₂ (λ t b. (t + b) % 2 ^ 16) c.loop-at.invariant.1 part ∙ sum-span s at 64)
 
 pub returns : goal.returns
 returns c =
     let s = c.args.s.now in
     let part = c.sum-2.ensures ∙ ap sum_of (rest-whole c.loop-at.at s) in
-    c.wrapping_add_u16.ensures ∙ ap₂ (λ t b. (t + b) % 2 ^ 16) c.loop-at.invariant.1 part ∙ sum-rest s c.loop-at.at
+    c.wrapping_add_u16.ensures.value ∙ ap₂ (λ t b. (t + b) % 2 ^ 16) c.loop-at.invariant.1 part ∙ sum-rest s c.loop-at.at

@@ -11,4 +11,4 @@ pub returns : goal.returns
 returns c =
     let a = c.args in
     let w = c.write_shown in
-    fits (report_shown a.answer a.x) a.out.now w.new.0 (search rules) w.ensures
+    fits (report_shown a.answer a.x) a.out.now w.new.out (search rules) w.ensures

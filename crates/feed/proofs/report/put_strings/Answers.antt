@@ -16,7 +16,7 @@ loop-s-preserved c =
     let y = c.put_string.new.s in
     putting-next a.out.now strings_from string_part string_count (λ k. string_bytes (word_at a.fails k) (word_at a.closes k)) c.loop-s.out y
     c.loop-s.s (λ k. string-length (word_at a.fails k) (word_at a.closes k)) (omega (arith, c.requires)) c.loop-s.invariant
-    c.loop-s-test.true c.put_string.ensures c.out-1.given.1
+    c.loop-s-test.true c.put_string.ensures (search rules)
 
 pub returns : goal.returns
 unfolding strings_bytes
@@ -24,7 +24,3 @@ returns c =
     let a = c.args in
     putting-end a.out.now strings_from string_part string_count (λ k. string_bytes (word_at a.fails k) (word_at a.closes k)) _ _
     c.loop-s.invariant c.loop-s-test.false
-
-pub overflow_add-s : goal.overflow_add-s
-overflow_add-s c = (λ
-    c. search rules) c

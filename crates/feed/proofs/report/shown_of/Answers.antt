@@ -27,11 +27,3 @@ returns c =
     ap₂ (λ (f k : List ℕ). record { n = h.n; fails = f; closes = k; banks = h.banks })
     (filling-end _ _ _ _ _ refl c.loop-s.invariant.0 c.loop-s-test.false)
     (filling-end _ _ _ _ _ refl c.loop-s.invariant.1 c.loop-s-test.false)
-
-pub mapped-requires : goal.mapped-requires
-mapped-requires c = (λ
-    c κs. search rules) c
-
-pub loop-s-smaller : goal.loop-s-smaller
-loop-s-smaller c = (λ
-    c. search rules) c

@@ -13,7 +13,3 @@ returns c =
     c.number.result a.out.now c.put_head.new.s
     (put_mid 0 strings_from a.out.now c.put_head.new.s) c.put_strings.new.out c.put_banks.new.out
     c.number.ensures c.put_head.ensures refl c.put_strings.ensures c.put_banks.ensures
-
-pub put_strings-requires : goal.put_strings-requires
-put_strings-requires c = (λ
-    c κs. search rules) c

@@ -1,5 +1,5 @@
 -- `feed::step::is_whole` meets its contract. Assumes nothing.
-use Rattle.std.proofs.Common.{sym, ◌∙◌, ⊎_elim, arith, rules}
+use Rattle.std.proofs.Common.{sym, ◌∙◌}
 use Rattle.feed.specs.Format.{look, settles}
 use Rattle.feed.specs.Step.{is_whole}
 use Rattle.feed.proofs.Records.Lengths.{by-test, shows-settles}
@@ -19,5 +19,5 @@ returns-in_default c =
     (λ t.
     let x = shows-settles (look s) t in
     let q = c.look_at.ensures ∙ x.1 in
-    absurd (⊎_elim (λ w. omega arith) (λ w. ⊎_elim (λ v. omega arith) (λ v. omega arith) w) (rw q at c.in_default.in_default-own.keys2)))
+    absurd (c.in_default.not-Settles _ q))
     (λ t. rw t)

@@ -31,15 +31,15 @@ loop-rest-preserved c =
     let f = c.loop-rest-test.true in
     let h = l.invariant.0 in (
       lt_trans (less l.rest f) h,
-      walk_turn a.s.now a.i a.jets l.below-zero l.small l.rest w.result d.result (some f) h w.ensures.0.1
-          (search rules) (search rules) (w.ensures.0.0, w.ensures.1) l.invariant.1,
+      walk_turn a.s.now a.i a.jets l.below_zero l.small l.rest w.result d.result (some f) h w.ensures.result_value.1
+          (search rules) (search rules) (w.ensures.result_value.0, w.ensures.result_value_2) l.invariant.1,
     )
 
 pub returns : goal.returns
 returns c =
     let a = c.args in
     let l = c.loop-rest in
-    c.meets.ensures ∙ walk_ends a.s.now a.i a.jets l.below-zero l.small c.loop-rest-test.false l.invariant.1
+    c.meets.ensures ∙ walk_ends a.s.now a.i a.jets l.below_zero l.small c.loop-rest-test.false l.invariant.1
 
 pub overflow_cast-j : goal.overflow_cast-j
 overflow_cast-j c = record { fits = omega (arith, within c.loop-rest-test.true c.loop-rest.invariant.0) }

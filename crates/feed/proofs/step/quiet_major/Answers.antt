@@ -10,7 +10,6 @@ use Rattle.feed.specs.Values.{major_of}
 use Rattle.feed.specs.Inside.Calm.{leak_at, none_found}
 use Rattle.feed.proofs.Records.ColdWords.{quiet_told}
 use Rattle.feed.proofs.step.quiet_major.Goals as goal
-use Rattle.feed.proofs.step.quiet_major.Goals.{After-none_found-4, Start}
 
 -- string s finds nothing but what its temperatures say
 abbrev none_at : List ℕ → Hall → ℕ → Bool
@@ -29,49 +28,37 @@ returns-then-s-ne0 c =
     let a = c.args in
     told a.s.now a.hall false _ _ (ne_eqb (get_or a.s.now path_at 0) 0 c.if-s-ne0.true) refl refl
 
+-- what string s finds, by the words of mapped jets that were made
+abbrev by_words : List ℕ → Hall → List ℕ → ℕ → Bool
+by_words l h w s = none_found l (get_or w s 0) (string_of h s).on (string_of h s).close s
+
 -- where every string has been looked at
-module _ (c : goal.After-none_found-4) where
-  abbrev jets : tie.After-mapped-words
-  jets = c.before.before.before.before.before.before.before.before
-
-  abbrev start : goal.Start
-  start = jets.before.before.before.before.before
-
-  abbrev bytes : List ℕ
-  bytes = start.args.s.now
-
-  abbrev hall : Hall
-  hall = start.args.hall
-
-  clear : eqb (get_or bytes path_at 0) 0 ≡ true
-  clear = eq-eqb (get_or bytes path_at 0) 0 jets.before.before.if1.left
-
-  -- by the words of mapped jets that were made
-  by_word : (s : ℕ) (b : Bool) → b ≡ none_found bytes (get_or jets.mapped-words.result s 0) (string_of hall s).on (string_of hall s).close s
-      → b ≡ none_at bytes hall s
-  by_word s b e =
-      e
-      ∙ ap (λ (w : List ℕ). none_found bytes (get_or w s 0) (string_of hall s).on (string_of hall s).close s)
-      jets.mapped-words.ensures
-
-  found : (((c.before.before.before.None-found.result && c.before.before.none-found2.result) && c.before.none-found3.result)
-      && c.none-found4.result)
-      ≡ every string_count (none_at bytes hall)
-  unfolding every
-  found =
-      ap₂ (λ (a b : Bool). a && b)
-      (ap₂ (λ (a b : Bool). a && b)
-      (ap₂ (λ (a b : Bool). a && b) (by_word 0 _ c.before.before.before.None-found.ensures)
-      (by_word 1 _ c.before.before.none-found2.ensures))
-      (by_word 2 _ c.before.none-found3.ensures))
-      (by_word 3 _ c.none-found4.ensures)
+found : (l : List ℕ) (h : Hall) (w : List ℕ) (p q r t : Bool) → w ≡ mapped_words h.masks → p ≡ by_words l h w 0 → q ≡ by_words l h w 1
+    → r ≡ by_words l h w 2 → t ≡ by_words l h w 3 → (((p && q) && r) && t) ≡ every string_count (none_at l h)
+unfolding every
+found l h w p q r t m a b c d =
+    let by_word : (s : ℕ) (x : Bool) → x ≡ by_words l h w s → x ≡ none_at l h s
+        = λ s x e. e ∙ ap (λ (v : List ℕ). by_words l h v s) m in
+    ap₂ (λ (a b : Bool). a && b)
+    (ap₂ (λ (a b : Bool). a && b) (ap₂ (λ (a b : Bool). a && b) (by_word 0 _ a) (by_word 1 _ b)) (by_word 2 _ c))
+    (by_word 3 _ d)
 
 pub returns-then-none : goal.returns-then-none
 returns-then-none c =
-    told (bytes (goal.at.returns-then-none c).After-none_found-4) (hall (goal.at.returns-then-none c).After-none_found-4) true true c.some_leaks.result (clear (goal.at.returns-then-none c).After-none_found-4) (sym (found (goal.at.returns-then-none c).After-none_found-4) ∙ c.if-none.true)
-    (sym (c.some_leaks.ensures
-    ∙ ap (λ (w : List ℕ). any string_count (leak_at (bytes (goal.at.returns-then-none c).After-none_found-4) w)) (jets (goal.at.returns-then-none c).After-none_found-4).mapped-words.ensures))
+    let l = c.args.s.now in
+    let h = c.args.hall in
+    let m = c.mapped_words-jets in
+    told l h true true c.some_leaks.result (eq-eqb (get_or l path_at 0) 0 c.if-s-ne0.false)
+    (sym (found l h m.result _ _ _ _ m.ensures c.none_found.ensures c.none_found-2.ensures c.none_found-3.ensures c.none_found-4.ensures)
+    ∙ c.if-none.true)
+    (sym (c.some_leaks.ensures ∙ ap (λ (w : List ℕ). any string_count (leak_at l w)) m.ensures))
 
 pub returns-else-none : goal.returns-else-none
 returns-else-none c =
-    told (bytes (goal.at.returns-else-none c).After-none_found-4) (hall (goal.at.returns-else-none c).After-none_found-4) true false _ (clear (goal.at.returns-else-none c).After-none_found-4) (sym (found (goal.at.returns-else-none c).After-none_found-4) ∙ c.if-none.false) refl
+    let l = c.args.s.now in
+    let h = c.args.hall in
+    let m = c.mapped_words-jets in
+    told l h true false _ (eq-eqb (get_or l path_at 0) 0 c.if-s-ne0.false)
+    (sym (found l h m.result _ _ _ _ m.ensures c.none_found.ensures c.none_found-2.ensures c.none_found-3.ensures c.none_found-4.ensures)
+    ∙ c.if-none.false)
+    refl

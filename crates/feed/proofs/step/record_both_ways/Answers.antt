@@ -21,6 +21,6 @@ pub returns : goal.returns
 unfolding major_of
 returns c =
     let a = c.args in
-    c.both_ways_lem.ensures
+    c.both_ways.ensures
     ∙ ap (both_ways string_count a.masks) c.requests_of.ensures
     ∙ sym (ap (record_both_ways a.masks) (values-major a.s.now c.if-s-ne-MAJOR_MARK.false))

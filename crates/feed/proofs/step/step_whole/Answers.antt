@@ -1,5 +1,5 @@
 -- `feed::step::step_whole` meets its contract. Assumes nothing.
-use Rattle.std.proofs.Common.{◌≡◌, ℕ, true, eqb, List, get_or, sym, ap, ◌∙◌, ap₂, arith, rules, eqb-true}
+use Rattle.std.proofs.Common.{◌≡◌, ℕ, true, eqb, List, get_or, sym, ap, ◌∙◌, ap₂, arith, rules, eq-eqb, ne_eqb}
 use Rattle.cycle.specs.Numbers.{judged}
 use Rattle.cycle.specs.Hall.{minor_taken, major_taken}
 use Rattle.cycle.specs.declared.answer.Answer.TheVariants.{Taken}
@@ -36,27 +36,24 @@ keeps l h = major-keeps (major_of l) h
 pub returns-then-record_both_ways : goal.returns-then-record_both_ways
 returns-then-record_both_ways c =
     let a = c.args in
-    half-both-ways a.s.now a.hall c.pre _ (verdict (goal.at.returns-then-record_both_ways c).After-judged-v _ c.in-Takes.is)
+    half-both-ways a.s.now a.hall c.requires _ (verdict (goal.at.returns-then-record_both_ways c).After-judged-v _ c.in-Takes.is)
     (sym c.record_both_ways.ensures ∙ c.if-record_both_ways.true)
 
 pub minor_of-r-requires : goal.minor_of-r-requires
-minor_of-r-requires c = whole-minor _ (start (goal.at.minor_of-r-requires c).After-judged-v).requires
+minor_of-r-requires c = whole-minor _ c.requires
 
 -- a major record has its length
 pub quiet_major-requires : goal.quiet_major-requires
 quiet_major-requires c =
-    let entry = start (goal.at.quiet_major-requires c).After-judged-v in
-    whole-major _ entry.pre (eqb-true _ major_mark c.if-major.true)
+    whole-major _ c.requires c.if-major.true
 
 pub quantities_of-requires : goal.quantities_of-requires
 quantities_of-requires c =
-    let entry = start (goal.at.quantities_of-requires c).After-judged-v in
-    whole-major _ entry.pre (eqb-true _ major_mark c.if-major.true)
+    whole-major _ c.requires c.if-major.true
 
 pub major_of-q-requires : goal.major_of-q-requires
 major_of-q-requires c =
-    let entry = start (goal.at.major_of-q-requires c).After-judged-v in
-    (whole-major _ entry.pre (eqb-true _ major_mark c.if-major.true), c.minor_of-r.ensures)
+    (whole-major _ c.requires c.if-major.true, c.minor_of-r.ensures)
 
 -- steps 5 to 8 find nothing
 pub returns-then-quiet_major : goal.returns-then-quiet_major
@@ -71,8 +68,8 @@ returns-then-quiet_major c =
     ∙ sym (keeps a.s.now h quiet)
     ∙ ap (major_taken (major_of a.s.now))
     (c.minor_taken-h.ensures ∙ ap (λ (x : Minor). minor_taken x next a.hall) c.minor_of-r.ensures))
-    ∙ half-major a.s.now a.hall c.pre next (verdict (goal.at.returns-then-quiet_major c).After-judged-v _ c.in-Takes.is)
-    (sym c.record_both_ways.ensures ∙ c.if-record_both_ways.false) c.if-major.true
+    ∙ half-major a.s.now a.hall c.requires next (verdict (goal.at.returns-then-quiet_major c).After-judged-v _ c.in-Takes.is)
+    (sym c.record_both_ways.ensures ∙ c.if-record_both_ways.false) (eq-eqb _ major_mark c.if-major.true)
 
 pub returns-else-quiet_major : goal.returns-else-quiet_major
 returns-else-quiet_major c =
@@ -80,8 +77,8 @@ returns-else-quiet_major c =
     let next = c.in-Takes.next in
     ap (stepped_to Taken) (c.major_taken.ensures ∙ ap₂ major_taken c.major_of-q.ensures
     (c.minor_taken-h.ensures ∙ ap (λ (x : Minor). minor_taken x next a.hall) c.minor_of-r.ensures))
-    ∙ half-major a.s.now a.hall c.pre next (verdict (goal.at.returns-else-quiet_major c).After-judged-v _ c.in-Takes.is)
-    (sym c.record_both_ways.ensures ∙ c.if-record_both_ways.false) c.if-major.true
+    ∙ half-major a.s.now a.hall c.requires next (verdict (goal.at.returns-else-quiet_major c).After-judged-v _ c.in-Takes.is)
+    (sym c.record_both_ways.ensures ∙ c.if-record_both_ways.false) (eq-eqb _ major_mark c.if-major.true)
 
 pub returns-else-major : goal.returns-else-major
 returns-else-major c =
@@ -89,8 +86,8 @@ returns-else-major c =
     let next = c.in-Takes.next in
     ap (stepped_to Taken)
     (c.minor_taken-h.ensures ∙ ap (λ (x : Minor). minor_taken x next a.hall) c.minor_of-r.ensures)
-    ∙ half-minor a.s.now a.hall c.pre next (verdict (goal.at.returns-else-major c).After-judged-v _ c.in-Takes.is)
-    (sym c.record_both_ways.ensures ∙ c.if-record_both_ways.false) c.if-major.false
+    ∙ half-minor a.s.now a.hall c.requires next (verdict (goal.at.returns-else-major c).After-judged-v _ c.in-Takes.is)
+    (sym c.record_both_ways.ensures ∙ c.if-record_both_ways.false) (ne_eqb _ major_mark c.if-major.false)
 
 pub returns-in-Refuses : goal.returns-in-Refuses
 returns-in-Refuses c =

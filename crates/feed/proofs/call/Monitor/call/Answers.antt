@@ -19,10 +19,10 @@ few : (count claimed : ℕ) → count ≡ held_count claimed → count ≤ most_
 few count claimed e = rw e (held-short claimed)
 
 pub slice_bounds-clear-count : goal.slice_bounds-clear-count
-slice_bounds-clear-count c = omega (arith, few _ _ c.held_count-n.ensures)
+slice_bounds-clear-count c = omega (arith, few c.held_count-n.result c.args.self.count c.held_count-n.ensures)
 
 pub slice_bounds-b-start : goal.slice_bounds-b-start
-slice_bounds-b-start c = omega (arith, few _ _ c.held_count-n.ensures)
+slice_bounds-b-start c = omega (arith, few c.held_count-n.result c.args.self.count c.held_count-n.ensures)
 
 pub slice_bounds-b-end : goal.slice_bounds-b-end
 slice_bounds-b-end c = let long : length c.args.self.held ≡ store_length = search rules in omega arith
