@@ -1,0 +1,36 @@
+-- `plain::string::PlainString::fail_word` meets its contract. Assumes nothing.
+use borrow.Author.Rules.{rules}
+use mathlib.Core.Path.{◌≡◌, ap, ◌∙◌}
+use mathlib.Core.Bool.{Bool, ◌&&◌}
+use Prim.Native.Nat.{◌≤◌, ◌-◌}
+use native.Mathlib.Numerals.{add-one}
+use Rattle.bits.specs.Bit.{pack}
+use Rattle.bits.proofs.Words.{pack-next}
+use Rattle.cycle.specs.Size.{jet_count}
+use Rattle.cycle.proofs.Loops.{ended}
+use Rattle.plain.specs.Jet.{mapped_jet}
+use Rattle.plain.specs.String.{jet_at}
+use Rattle.plain.specs.Shown.{fail_word}
+use Rattle.plain.proofs.string.PlainString.fail_word.Goals as goal
+
+pub loop-j-init : goal.loop-j-init
+unfolding fail_word pack
+loop-j-init c = search rules
+
+pub loop-j-preserved : goal.loop-j-preserved
+unfolding fail_word
+loop-j-preserved c =
+    let at = c.loop-j in
+    let a = c.args in
+    let x = jet_at a.self.jets at.j in (
+      search rules,
+      rw add-one
+          (c.with_bit-w.ensures
+          ∙ pack-next at.j at.w (λ j. mapped_jet (jet_at a.self.jets j) && (jet_at a.self.jets j).standing.fail) _
+          c.loop-j-test.true at.invariant.1 (ap (λ (b : Bool). b && x.standing.fail) c.is_mapped.ensures)),
+    )
+
+pub returns : goal.returns
+returns c =
+    let a = c.args in
+    ended (λ j. fail_word j a.self.jets) c.loop-j.invariant c.loop-j-test.false

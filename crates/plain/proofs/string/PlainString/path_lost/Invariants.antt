@@ -1,0 +1,15 @@
+-- `plain::string::PlainString::path_lost` meets its contract. Assumes nothing.
+use borrow.Author.Rules.{rules}
+use mathlib.Core.Path.{◌≡◌}
+use Prim.Native.Nat.{◌≤◌, ◌-◌}
+use Rattle.cycle.specs.Size.{jet_count}
+use Rattle.cycle.specs.Each.{each}
+use Rattle.plain.specs.String.{each_of, lost_rule}
+use Rattle.plain.proofs.Loops.{jets-turned, string-ended}
+use Rattle.plain.proofs.string.PlainString.path_lost.Given as goal
+
+abbrev pub invariant-loop-j : goal.invariant-loop-j
+invariant-loop-j l = (l.j ≤ jet_count) × (l.jets ≡ each_of l.j lost_rule l.initial.jets)
+
+abbrev pub decreases-loop-j : goal.decreases-loop-j
+decreases-loop-j l = jet_count - l.j

@@ -1,0 +1,15 @@
+-- `writer::record::put_words` meets its contract. Assumes nothing.
+use mathlib.Core.Path.{refl}
+use Prim.Native.Nat.{◌+◌, ◌*◌, ◌-◌}
+use borrow.Author.Rules.{rules}
+use Rattle.feed.specs.Size.{temperature_count, temperature_length}
+use Rattle.feed.proofs.Reports.Written.{put-part}
+use Rattle.feed.proofs.Reports.Laying.{Laying, laying-none, laying-next, laying-end}
+use Rattle.writer.specs.RecordBytes.{word_shown, words_bytes}
+use Rattle.writer.proofs.record.put_words.Given as goal
+
+abbrev pub invariant-loop-k : goal.invariant-loop-k
+invariant-loop-k l = Laying temperature_length temperature_count (word_shown (record { words = l.words })) l.initial.b l.b l.k
+
+abbrev pub decreases-loop-k : goal.decreases-loop-k
+decreases-loop-k l = temperature_count - l.k
