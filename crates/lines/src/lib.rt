@@ -2,6 +2,7 @@
 // or that found a line not ready, is made again; a line is given up only where the system said that it is over, or after the largest count
 // of tries. What was read or written no contract can say; what is said of a line is in specs/.
 #![tactic(auto)]
+
 pub mod ending;
 pub mod line;
 pub mod read;
