@@ -7,4 +7,6 @@
 pub mod ending;
 pub mod line;
 pub mod read;
+#[cfg(test)]
+mod tests;
 pub mod write;
