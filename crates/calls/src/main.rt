@@ -10,6 +10,7 @@
 // the answer's number (1), the bytes used (2), the whole outbox, the whole hall (618), the low 16 bits of the count (2) and the whole store
 // (619). At the end of its input, at a script that breaks off and at a piece that is too long the program stops silently.
 #![tactic(auto)]
+
 ghost use Rattle.std.specs.Prelude.{◌≡◌, true, ◌∷◌, ◌%◌, ◌<◌, ◌≤◌, length};
 ghost use Rattle.cycle.specs.Answers.{number_of};
 ghost use Rattle.feed.specs.Bytes.{two, in_two};
@@ -25,7 +26,7 @@ use cycle::hall::Hall;
 use feed::bytes::{put_two, read_two};
 use feed::call::{Monitor, Outcome};
 use feed::size::STORE;
-use libc::{STDIN_FILENO, STDOUT_FILENO};
+use std::io::{Read, Write};
 
 // The longest piece, and the longest outbox that one byte can name.
 const PIECE: usize = 4096;
@@ -88,18 +89,18 @@ fn count_bytes(count: usize) -> [u8; 2]
 }
 
 // Reads the next n bytes to the front of the buffer; no, where they do not fit or the input ends before.
-fn came(buf: &mut [u8], n: usize) -> bool
+fn came(reader: &mut impl Read, buf: &mut [u8], n: usize) -> bool
     ensures { result ≡ true → n ≤ length buf.new }
 {
     if n <= buf.len() {
-        io::read_full(STDIN_FILENO, &mut buf[..n]) == n
+        reader.read_exact(&mut buf[..n]).is_ok()
     } else {
         false
     }
 }
 
 // The next script's header.
-fn next_header() -> Header
+fn next_header(reader: &mut impl Read) -> Header
     ensures { (result.count < 65536) × (result.calls < 65536) }
 {
     let mut kind = [0u8; 1];
@@ -107,11 +108,11 @@ fn next_header() -> Header
     let mut count = [0u8; 2];
     let mut held = [0u8; STORE];
     let mut calls = [0u8; 2];
-    let whole = came(&mut kind, 1)
-        && came(&mut hall, HALL)
-        && came(&mut count, 2)
-        && came(&mut held, STORE)
-        && came(&mut calls, 2);
+    let whole = came(reader, &mut kind, 1)
+        && came(reader, &mut hall, HALL)
+        && came(reader, &mut count, 2)
+        && came(reader, &mut held, STORE)
+        && came(reader, &mut calls, 2);
     Header {
         whole: whole,
         kind: kind[0],
@@ -159,18 +160,18 @@ fn started(h: Header) -> Outcome
 }
 
 // Writes all that a call gave back; the outbox is lent.
-fn said(o: Outcome, outbox: &[u8]) -> Step
+fn said(writer: &mut impl Write, o: Outcome, outbox: &[u8]) -> Step
     ensures { result.monitor ≡ o.monitor }
 {
     let answer = o.answer;
     let monitor = o.monitor;
     let hall = monitor.hall;
     let held = monitor.held;
-    let going = io::write_all(STDOUT_FILENO, &front(answer, o.used))
-        && io::write_all(STDOUT_FILENO, outbox)
-        && io::write_all(STDOUT_FILENO, &hall_bytes(hall))
-        && io::write_all(STDOUT_FILENO, &count_bytes(monitor.count))
-        && io::write_all(STDOUT_FILENO, &held);
+    let going = writer.write_all(&front(answer, o.used)).is_ok()
+        && writer.write_all(outbox).is_ok()
+        && writer.write_all(&hall_bytes(hall)).is_ok()
+        && writer.write_all(&count_bytes(monitor.count)).is_ok()
+        && writer.write_all(&held).is_ok();
     Step {
         going: going,
         monitor: monitor,
@@ -178,16 +179,16 @@ fn said(o: Outcome, outbox: &[u8]) -> Step
 }
 
 // One call, and all that it gives back written.
-fn one_call(m: Monitor, piece: &[u8], outbox: &mut [u8]) -> Step
+fn one_call(writer: &mut impl Write, m: Monitor, piece: &[u8], outbox: &mut [u8]) -> Step
     ensures monitor_value { result.monitor ≡ (call m piece.now outbox.old).outcome.monitor }
     ensures outbox_after { outbox.new ≡ (call m piece.now outbox.old).outbox }
 {
     let o = m.call(piece, outbox);
-    said(o, outbox)
+    said(writer, o, outbox)
 }
 
 // The script's next call; it is not going on where the call did not come whole, or what it gave could not be written.
-fn next_call(m: Monitor) -> Step
+fn next_call(reader: &mut impl Read, writer: &mut impl Write, m: Monitor) -> Step
     ensures { result.going ≡ true → OneCall m result.monitor }
 {
     let mut length = [0u8; 2];
@@ -198,31 +199,31 @@ fn next_call(m: Monitor) -> Step
         going: false,
         monitor: m,
     };
-    if !came(&mut length, 2) {
+    if !came(reader, &mut length, 2) {
         return stop;
     }
     let n = two_of(&length);
-    if !came(&mut piece, n) {
+    if !came(reader, &mut piece, n) {
         return stop;
     }
-    if !came(&mut room, 1) {
+    if !came(reader, &mut room, 1) {
         return stop;
     }
     let k = wide(room[0]);
-    if !came(&mut outbox, k) {
+    if !came(reader, &mut outbox, k) {
         return stop;
     }
-    one_call(m, &piece[..n], &mut outbox[..k])
+    one_call(writer, m, &piece[..n], &mut outbox[..k])
 }
 
 // Plays so many calls, and answers how many it got through.
-fn played(m: Monitor, calls: usize) -> usize
+fn played(reader: &mut impl Read, writer: &mut impl Write, m: Monitor, calls: usize) -> usize
     ensures { result ≤ calls }
 {
     let mut monitor = m;
     let mut done: usize = 0;
     while done < calls {
-        let step = next_call(monitor);
+        let step = next_call(reader, writer, monitor);
         if !step.going {
             return done;
         }
@@ -233,20 +234,22 @@ fn played(m: Monitor, calls: usize) -> usize
     done
 }
 
-fn main() {
+fn main(rt: HostRuntime) {
+    let mut reader = rt.stdin();
+    let mut writer = rt.stdout();
     let mut turns = u64::MAX;
     while turns > 0 {
-        let h = next_header();
+        let h = next_header(&mut reader);
         if !h.whole {
             return;
         }
         let s = started(h);
         let answer = s.answer;
         let monitor = s.monitor;
-        if !io::write_all(STDOUT_FILENO, &[answer.number()]) {
+        if writer.write_all(&[answer.number()]).is_err() {
             return;
         }
-        if played(monitor, h.calls) < h.calls {
+        if played(&mut reader, &mut writer, monitor, h.calls) < h.calls {
             return;
         }
         turns -= 1;

@@ -1,15 +1,7 @@
 -- Why the program ends, case by case. Assumes nothing.
-use mathlib.Core.Path.{◌≡◌, refl}
-use mathlib.Core.Logic.{◌⊎◌, ⊎_elim}
-use Prim.Native.Nat.{ℕ, ◌<◌, ◌^◌}
-use native.Mathlib.Omega.{arith}
+use Rattle.std.proofs.Common.{◌≡◌, ℕ, ℤ, ◌⊎◌, refl, ⊎_elim, arith}
 use Rattle.lines.specs.Lines.{largest_count, SaidOver, GivenUp}
 use Rattle.lines.specs.Ending.{EndedBy, why_at, ended_at}
-use lib.IntN.{ℤ}
-use lib.Signed.{mag}
-use mir.Syntax.{w32, w64}
-use mir.Val.{of_z, to_z}
-use mir.ValLaws.{to_z-of_z}
 use Rattle.lines.specs.declared.line.Line.{Line}
 use Rattle.lines.specs.declared.line.Line.TheVariants as line
 use Rattle.lines.specs.declared.line.Moved.{Moved}
@@ -38,12 +30,10 @@ module _ (turns tries : ℕ) (answer failure : ℤ) where
     tried = λ e. ⊎_elim (λ i. never cc) (λ i. never cc) o;
   }
 
--- an answer and a failure that were held as words
-pub ended-as-words : (over : Why) (turns : ℕ) (r : Moved) (why : Why) → why ≡ why_at over r.line → mag r.answer < 2 ^ 63
-    → mag r.failure < 2 ^ 31
-    → ended turns r.tries (to_z w64 (of_z w64 r.answer)) (to_z w32 (of_z w32 r.failure)) why ≡ ended_at over turns r
-ended-as-words over turns r why e f g =
-    rw (e, to_z-of_z w64 r.answer (record { sfits = f }), to_z-of_z w32 r.failure (record { sfits = g })) refl
+-- what is told of an end
+pub ended-as-words : (over : Why) (turns : ℕ) (r : Moved) (why : Why) → why ≡ why_at over r.line
+    → ended turns r.tries r.answer r.failure why ≡ ended_at over turns r
+ended-as-words over turns r why e = rw e refl
 
 -- an end at a line that was given up
 pub ended-at-line : (over : Why) (turns : ℕ) (r : Moved) → (over ≡ InputOver) ⊎ (over ≡ OutputOver) → GivenUp r → (r.line ≡ line.Open → ⊥)

@@ -1,13 +1,6 @@
 -- What is said of a line, case by case. Assumes nothing.
-use mathlib.Core.Path.{◌≡◌, refl}
-use Prim.Native.Nat.{ℕ, ◌+◌, ◌≤◌, ◌<◌, ◌^◌}
-use native.Mathlib.Omega.{arith}
+use Rattle.std.proofs.Common.{◌≡◌, ℕ, ℤ, ◌+◌, ◌≤◌, ◌<◌, refl, arith}
 use Rattle.lines.specs.Lines.{largest_count, SaidOver, Told, unasked, Read, First, Written}
-use lib.IntN.{ℤ}
-use lib.Signed.{mag}
-use mir.Syntax.{w32, w64}
-use mir.Val.{of_z, to_z}
-use mir.ValLaws.{to_z-of_z}
 use Rattle.lines.specs.declared.line.Moved.{Moved}
 use Rattle.lines.specs.declared.line.Line.{Line}
 use Rattle.lines.specs.declared.line.Line.TheVariants.{Open, Over, OutOfTries, NoRoom}
@@ -74,26 +67,23 @@ pub none-wanted : (n : ℕ) (got : Moved) → n ≡ 0 → got ≡ unasked Open
       bytes = n;
       line = Open;
       tries = got.tries;
-      answer = to_z w64 (of_z w64 got.answer);
-      failure = to_z w32 (of_z w32 got.failure);
+      answer = got.answer;
+      failure = got.failure;
     }
     ≡ unasked Open
 none-wanted n got e f = rw (e, f) refl
 
--- a read behind n bytes that were there, at which the line was given up or had no room; answer and failure were held as words
-pub first-shut : (wanted most n rest : ℕ) (r : Moved) → n < wanted → n + rest ≡ most → Read rest r → (r.line ≡ Open → ⊥) → mag r.answer
-    < 2 ^ 63
-    → mag r.failure < 2 ^ 31
+-- a read behind n bytes that were there, at which the line was given up or had no room
+pub first-shut : (wanted most n rest : ℕ) (r : Moved) → n < wanted → n + rest ≡ most → Read rest r → (r.line ≡ Open → ⊥)
     → First wanted most
     (record {
       bytes = n;
       line = r.line;
       tries = r.tries;
-      answer = to_z w64 (of_z w64 r.answer);
-      failure = to_z w32 (of_z w32 r.failure);
+      answer = r.answer;
+      failure = r.failure;
     })
-first-shut wanted most n rest r few all read shut f g =
-    rw (to_z-of_z w64 r.answer (record { sfits = f }), to_z-of_z w32 r.failure (record { sfits = g }))
+first-shut wanted most n rest r few all read shut =
     (record {
       told = record { within = omega arith; given_up = record { over = read.told.given_up.over; tried = read.told.given_up.tried } };
       enough = λ e. absurd (shut e);

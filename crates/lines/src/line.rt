@@ -1,8 +1,16 @@
 // What becomes of a line, and which failures pass.
-ghost use Rattle.std.specs.Prelude.{◌≡◌};
+ghost use Rattle.std.specs.Prelude.{◌≡◌, pos, MatchOption};
+ghost use Rattle.std.specs.IoError.{raw_os_error};
 ghost use Rattle.lines.specs.Lines.{passes};
 
-use libc::types::timespec;
+use std::io;
+use std::thread::sleep;
+use std::time::{Clock, Duration};
+
+// The system's numbers of the failures that pass: a line that has nothing ready or can take nothing now, and a call that was interrupted.
+pub const EAGAIN: i32 = 11;
+
+pub const EINTR: i32 = 4;
 
 // What became of a line: the bytes went over it; it has ended or failed; it was tried so often that no count can hold more; or there was no
 // room for what it would bring.
@@ -25,27 +33,29 @@ pub struct Moved {
     pub failure: i32,
 }
 
-// Waits two milliseconds, or less where a signal ends the wait: short beside a cycle's 40.
-fn pause() {
-    let asked = timespec {
-        tv_sec: 0,
-        tv_nsec: 2000000,
-    };
-    let mut left = timespec {
-        tv_sec: 0,
-        tv_nsec: 0,
-    };
-    libc::nanosleep(&asked, &mut left);
+// The number of a failure, or 0, which does not pass, where it has none: the system's failures have one.
+pub(crate) fn number_of(failed: io::Error) -> i32
+    ensures { MatchOption (raw_os_error failed) (result ≡ pos 0) (λ number. result ≡ number) }
+{
+    match failed.raw_os_error() {
+        Some(number) => number,
+        None => 0,
+    }
+}
+
+// Waits two milliseconds: short beside a cycle's 40.
+fn pause(clock: &impl Clock) {
+    sleep(clock, Duration::from_millis(2));
 }
 
 // Whether a failure passes, so that the call is made again: at once where it was only interrupted, after a pause where the line was not
 // ready.
-pub(crate) fn try_again(failure: i32) -> bool
+pub(crate) fn try_again(clock: &impl Clock, failure: i32) -> bool
     ensures { result ≡ passes failure }
 {
-    if failure == libc::EAGAIN {
-        pause();
+    if failure == EAGAIN {
+        pause(clock);
         return true;
     }
-    failure == libc::EINTR
+    failure == EINTR
 }

@@ -1,16 +1,18 @@
-// Reading standard input.
+// Reading standard input, or another reader.
 ghost use Rattle.std.specs.Prelude.{length};
 ghost use Rattle.lines.specs.Lines.{Read, First};
 
-use crate::line::{Line, Moved, try_again};
+use crate::line::{EAGAIN, Line, Moved, number_of, try_again};
+use std::io;
+use std::time::Clock;
 
 // Reads what is ready into the buffer, and waits for that. Into no buffer the system would read nothing and answer 0, as at the end of the
 // input: it is not asked then.
-pub fn read_ready(buf: &mut [u8]) -> Moved
+pub fn read_ready(input: &mut impl io::Read, clock: &impl Clock, buf: &mut [u8]) -> Moved
     ensures { Read (length buf.new) result }
 {
     let mut tries: u64 = 0;
-    let mut failure: i32 = libc::EAGAIN;
+    let mut failure: i32 = EAGAIN;
     if buf.len() == 0 {
         return Moved {
             bytes: 0,
@@ -21,35 +23,37 @@ pub fn read_ready(buf: &mut [u8]) -> Moved
         };
     }
     while tries < u64::MAX {
-        let got = libc::read(libc::STDIN_FILENO, buf);
-        let bytes = io::count(got, buf);
-        if 0 < bytes {
-            return Moved {
-                bytes: bytes,
-                line: Line::Open,
-                tries: tries,
-                answer: got,
-                failure: failure,
-            };
-        }
-        if got == 0 {
-            return Moved {
-                bytes: 0,
-                line: Line::Over,
-                tries: tries,
-                answer: got,
-                failure: failure,
-            };
-        }
-        failure = os::errno();
-        if !try_again(failure) {
-            return Moved {
-                bytes: 0,
-                line: Line::Over,
-                tries: tries,
-                answer: got,
-                failure: failure,
-            };
+        match input.read(buf) {
+            Ok(0) => {
+                return Moved {
+                    bytes: 0,
+                    line: Line::Over,
+                    tries: tries,
+                    answer: 0,
+                    failure: failure,
+                };
+            }
+            Ok(bytes) => {
+                return Moved {
+                    bytes: bytes,
+                    line: Line::Open,
+                    tries: tries,
+                    answer: bytes as isize,
+                    failure: failure,
+                };
+            }
+            Err(failed) => {
+                failure = number_of(failed);
+                if !try_again(clock, failure) {
+                    return Moved {
+                        bytes: 0,
+                        line: Line::Over,
+                        tries: tries,
+                        answer: -1,
+                        failure: failure,
+                    };
+                }
+            }
         }
         tries += 1;
     }
@@ -64,7 +68,12 @@ pub fn read_ready(buf: &mut [u8]) -> Moved
 
 // Reads until `wanted` bytes are there; more may come with them. Says how many bytes are in the buffer, also where it was full or the input
 // over before that.
-pub fn read_first(buf: &mut [u8], wanted: usize) -> Moved
+pub fn read_first(
+    input: &mut impl io::Read,
+    clock: &impl Clock,
+    buf: &mut [u8],
+    wanted: usize,
+) -> Moved
     ensures { First wanted (length buf.new) result }
 {
     let mut n: usize = 0;
@@ -73,10 +82,10 @@ pub fn read_first(buf: &mut [u8], wanted: usize) -> Moved
         line: Line::Open,
         tries: 0,
         answer: 1,
-        failure: libc::EAGAIN,
+        failure: EAGAIN,
     };
     while n < wanted {
-        got = read_ready(&mut buf[n..]);
+        got = read_ready(input, clock, &mut buf[n..]);
         let line = got.line;
         let Line::Open = line else {
             return Moved {

@@ -2,6 +2,7 @@
 // reports to standard output, with the reader and the report of `feed`, the lines of `lines` and the engine of `plain`. It makes one call
 // after the other and writes each report by itself: it is meant to be read, not to be fast.
 #![tactic(auto)]
+
 ghost use Rattle.std.specs.Prelude.{◌≡◌, ◌≤◌, length, take, if◌then◌else◌};
 ghost use Rattle.cycle.specs.Answers.{writes_report};
 ghost use Rattle.feed.specs.Size.{map_length, report_length, outbox_needed};
@@ -13,11 +14,18 @@ use cycle::answer::Answer;
 use feed::masks::masks_of;
 use feed::size::{MAP, REPORT};
 use lines::ending::{Ended, Why, ended_at};
-use lines::line::{Line, Moved};
+use lines::line::{EAGAIN, Line, Moved};
 use lines::read::{read_first, read_ready};
 use lines::write::write_all;
 use plain::call::PlainMonitor;
+use std::io;
 use std::num::wrapping_add_usize;
+use std::time::Clock;
+
+// The sizes of the buffers: for what is read, and for a report.
+const INPUT: usize = 65536;
+
+const OUTBOX: usize = 4096;
 
 // How many bytes of its outbox a call with this answer has written.
 fn written(answer: Answer) -> usize
@@ -36,10 +44,12 @@ fn written(answer: Answer) -> usize
     }
 }
 
-// Writes a report, all of it: that of the monitor m's call with this piece, where it has one. Nothing else is ever written. The other
-// parameters are for the `requires` alone: the monitor at the start, the calls made, the feed bytes read and the report bytes written
-// before.
+// Writes a report, all of it: that of the monitor m's call with this piece, where it has one. Nothing else is ever written. Of the other
+// parameters those from `start` to `told` are for the `requires` alone: the monitor at the start, the calls made, the feed bytes read and
+// the report bytes written before.
 fn write_report(
+    writer: &mut impl io::Write,
+    clock: &impl Clock,
     start: PlainMonitor,
     m: PlainMonitor,
     turns: u64,
@@ -51,13 +61,21 @@ fn write_report(
     requires { ReportedFor start m turns fed told piece.now report.now }
     ensures { Written (length report.now) result }
 {
-    write_all(report)
+    write_all(writer, clock, report)
 }
 
 // Watches: calls the monitor with what has been read, writes its report, and where there is none reads on, from a buffer that holds the map
 // and perhaps feed bytes behind it, and the monitor that is fresh over that map. `fed` and `told` count feed bytes read and report bytes
 // written, round in a word: so no turn can leave any out.
-fn watched(start: PlainMonitor, input: &mut [u8], read: usize, out: &mut [u8]) -> Ended
+fn watched(
+    reader: &mut impl io::Read,
+    writer: &mut impl io::Write,
+    clock: &impl Clock,
+    start: PlainMonitor,
+    input: &mut [u8],
+    read: usize,
+    out: &mut [u8],
+) -> Ended
     requires fresh { Fresh start (take map_length input.old) }
     requires map_length_le_read { (map_length ≤ read) × (read ≤ length input.old) }
     requires outbox_needed_in_bounds { outbox_needed ≤ length out.old }
@@ -73,7 +91,17 @@ fn watched(start: PlainMonitor, input: &mut [u8], read: usize, out: &mut [u8]) -
         let r = m.call(&input[at..n], out);
         let answer = r.answer;
         let w = written(answer);
-        let put = write_report(start, m, turns, fed, told, &input[at..n], &out[..w]);
+        let put = write_report(
+            writer,
+            clock,
+            start,
+            m,
+            turns,
+            fed,
+            told,
+            &input[at..n],
+            &out[..w],
+        );
         let output = put.line;
         let Line::Open = output else {
             return ended_at(Why::OutputOver, turns, put);
@@ -83,7 +111,7 @@ fn watched(start: PlainMonitor, input: &mut [u8], read: usize, out: &mut [u8]) -
         m = next;
         at += r.used;
         if w == 0 {
-            let got = read_ready(input);
+            let got = read_ready(reader, clock, input);
             let line = got.line;
             let Line::Open = line else {
                 return ended_at(Why::InputOver, turns, got);
@@ -99,14 +127,16 @@ fn watched(start: PlainMonitor, input: &mut [u8], read: usize, out: &mut [u8]) -
         turns: turns,
         tries: 0,
         answer: 1,
-        failure: libc::EAGAIN,
+        failure: EAGAIN,
     }
 }
 
-fn main() {
-    let mut input = io::large_buffer();
-    let mut out = io::buffer();
-    let got = read_first(&mut input, MAP);
+fn main(rt: HostRuntime) {
+    let mut reader = rt.stdin();
+    let mut writer = rt.stdout();
+    let mut input = [0u8; INPUT];
+    let mut out = [0u8; OUTBOX];
+    let got = read_first(&mut reader, &rt, &mut input, MAP);
     let line = got.line;
     let Line::Open = line else {
         return;
@@ -117,5 +147,13 @@ fn main() {
         return;
     }
     let start = s.monitor;
-    watched(start, &mut input, got.bytes, &mut out);
+    watched(
+        &mut reader,
+        &mut writer,
+        &rt,
+        start,
+        &mut input,
+        got.bytes,
+        &mut out,
+    );
 }

@@ -2,6 +2,7 @@
 // masks: it writes nothing at all. It takes what the input has ready, writes the reports of that, and only then reads again, so that no
 // report waits for bytes that have not arrived. Memory is fixed. All that matters is in `feed`, and what is done at a line in `lines`.
 #![tactic(auto)]
+
 ghost use Rattle.std.specs.Prelude.{◌≤◌, length, take};
 ghost use Rattle.feed.specs.Size.{map_length, outbox_needed};
 ghost use Rattle.lines.specs.Lines.{Written};
@@ -12,14 +13,22 @@ use cycle::answer::Answer;
 use feed::call::Monitor;
 use feed::size::MAP;
 use lines::ending::{Ended, Why, ended_at};
-use lines::line::{Line, Moved};
+use lines::line::{EAGAIN, Line, Moved};
 use lines::read::{read_first, read_ready};
 use lines::write::write_all;
+use std::io;
 use std::num::wrapping_add_usize;
+use std::time::Clock;
 
-// Writes reports, all of them: those of the monitor m for this piece. Nothing else is ever written. The other parameters are for the
-// `requires` alone: the monitor at the start, the turns made, the feed bytes read and the report bytes written before.
+// The size of each buffer: for what is read, and for the reports of a turn.
+const BUFFER: usize = 65536;
+
+// Writes reports, all of them: those of the monitor m for this piece. Nothing else is ever written. Of the other parameters those from
+// `start` to `told` are for the `requires` alone: the monitor at the start, the turns made, the feed bytes read and the report bytes written
+// before.
 fn write_reports(
+    writer: &mut impl io::Write,
+    clock: &impl Clock,
     start: Monitor,
     m: Monitor,
     turns: u64,
@@ -31,13 +40,21 @@ fn write_reports(
     requires { ReportedFor start m turns fed told piece.now reports.now }
     ensures { Written (length reports.now) result }
 {
-    write_all(reports)
+    write_all(writer, clock, reports)
 }
 
 // Watches: runs the monitor over what has been read, writes its reports, and reads on, from a buffer that holds the map and perhaps feed
 // bytes behind it, and the monitor that is fresh over that map. `fed` and `told` count feed bytes read and report bytes written, round in a
 // word: so no turn can leave any out.
-fn watched(start: Monitor, input: &mut [u8], read: usize, out: &mut [u8]) -> Ended
+fn watched(
+    reader: &mut impl io::Read,
+    writer: &mut impl io::Write,
+    clock: &impl Clock,
+    start: Monitor,
+    input: &mut [u8],
+    read: usize,
+    out: &mut [u8],
+) -> Ended
     requires fresh { Fresh start (take map_length input.old) }
     requires map_length_le_read { (map_length ≤ read) × (read ≤ length input.old) }
     requires outbox_needed_in_bounds { outbox_needed ≤ length out.old }
@@ -52,7 +69,17 @@ fn watched(start: Monitor, input: &mut [u8], read: usize, out: &mut [u8]) -> End
     while turns < u64::MAX {
         let r = m.run(&input[at..n], out);
         let w = r.written;
-        let put = write_reports(start, m, turns, fed, told, &input[at..n], &out[..w]);
+        let put = write_reports(
+            writer,
+            clock,
+            start,
+            m,
+            turns,
+            fed,
+            told,
+            &input[at..n],
+            &out[..w],
+        );
         let output = put.line;
         let Line::Open = output else {
             return ended_at(Why::OutputOver, turns, put);
@@ -62,7 +89,7 @@ fn watched(start: Monitor, input: &mut [u8], read: usize, out: &mut [u8]) -> End
         m = next;
         at += r.used;
         if !r.more {
-            let got = read_ready(input);
+            let got = read_ready(reader, clock, input);
             let line = got.line;
             let Line::Open = line else {
                 return ended_at(Why::InputOver, turns, got);
@@ -78,14 +105,16 @@ fn watched(start: Monitor, input: &mut [u8], read: usize, out: &mut [u8]) -> End
         turns: turns,
         tries: 0,
         answer: 1,
-        failure: libc::EAGAIN,
+        failure: EAGAIN,
     }
 }
 
-fn main() {
-    let mut input = io::large_buffer();
-    let mut out = io::large_buffer();
-    let got = read_first(&mut input, MAP);
+fn main(rt: HostRuntime) {
+    let mut reader = rt.stdin();
+    let mut writer = rt.stdout();
+    let mut input = [0u8; BUFFER];
+    let mut out = [0u8; BUFFER];
+    let got = read_first(&mut reader, &rt, &mut input, MAP);
     let line = got.line;
     let Line::Open = line else {
         return;
@@ -96,5 +125,13 @@ fn main() {
         return;
     }
     let start = s.monitor;
-    watched(start, &mut input, got.bytes, &mut out);
+    watched(
+        &mut reader,
+        &mut writer,
+        &rt,
+        start,
+        &mut input,
+        got.bytes,
+        &mut out,
+    );
 }

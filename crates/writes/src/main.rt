@@ -8,6 +8,7 @@
 // Standard output has for each request the number of the writer's answer (1 byte) and the whole outbox. At the end of its input, at a
 // request that breaks off, at another kind and at a longer outbox the program stops silently.
 #![tactic(auto)]
+
 ghost use Rattle.std.specs.Prelude.{◌≡◌, true, ◌+◌, ◌≤◌, length};
 ghost use Rattle.writes.specs.Request.{allowed, reply};
 
@@ -17,26 +18,26 @@ use crate::request::{
     HEADER_LENGTH, Header, REPLY_LENGTH, Request, allowed, header_in, put_reply, values_length,
 };
 use feed::size::{MAJOR_LENGTH, MARK_LENGTH};
-use libc::{STDIN_FILENO, STDOUT_FILENO};
+use std::io::{Read, Write};
 
 // Reads the next n bytes to the front of the buffer; no, where they do not fit or the input ends before.
-fn came(buf: &mut [u8], n: usize) -> bool
+fn came(reader: &mut impl Read, buf: &mut [u8], n: usize) -> bool
     ensures { result ≡ true → n ≤ length buf.new }
 {
     if n <= buf.len() {
-        io::read_full(STDIN_FILENO, &mut buf[..n]) == n
+        reader.read_exact(&mut buf[..n]).is_ok()
     } else {
         false
     }
 }
 
 // The next request. Its values come to the places that they have in a record, behind those of a mark.
-fn next_request() -> Request
+fn next_request(reader: &mut impl Read) -> Request
     ensures { result.whole ≡ true → allowed result.header ≡ true }
 {
     let mut head = [0u8; HEADER_LENGTH];
     let mut values = [0u8; MAJOR_LENGTH];
-    let begun = came(&mut head, HEADER_LENGTH);
+    let begun = came(reader, &mut head, HEADER_LENGTH);
     let header = header_in(&head);
     let stop = Request {
         whole: false,
@@ -50,7 +51,7 @@ fn next_request() -> Request
         return stop;
     }
     let n = values_length(header.kind);
-    let whole = came(&mut values[MARK_LENGTH..], n);
+    let whole = came(reader, &mut values[MARK_LENGTH..], n);
     Request {
         whole: whole,
         header: header,
@@ -59,40 +60,42 @@ fn next_request() -> Request
 }
 
 // The one function that writes: the reply to a request and nothing else; no, where that fails.
-fn write_reply(b: &[u8], h: Header, values: &[u8]) -> bool
+fn write_reply(writer: &mut impl Write, b: &[u8], h: Header, values: &[u8]) -> bool
     requires { b.now ≡ reply h values.now }
 {
-    io::write_all(STDOUT_FILENO, b)
+    writer.write_all(b).is_ok()
 }
 
 // Makes the reply in the bytes lent, and writes it.
-fn sent(b: &mut [u8], h: Header, values: &[u8]) -> bool
+fn sent(writer: &mut impl Write, b: &mut [u8], h: Header, values: &[u8]) -> bool
     requires { length b.old ≡ 1 + h.room }
     ensures { b.new ≡ reply h values.now }
 {
     put_reply(b, h, values);
-    write_reply(b, h, values)
+    write_reply(writer, b, h, values)
 }
 
 // The same, with bytes that have room for the reply to any request that is allowed.
-fn replied(q: Request) -> bool
+fn replied(writer: &mut impl Write, q: Request) -> bool
     requires { allowed q.header ≡ true }
 {
     let header = q.header;
     let values = q.values;
     let mut b = [0u8; REPLY_LENGTH];
     let n = 1 + header.room;
-    sent(&mut b[..n], header, &values)
+    sent(writer, &mut b[..n], header, &values)
 }
 
-fn main() {
+fn main(rt: HostRuntime) {
+    let mut reader = rt.stdin();
+    let mut writer = rt.stdout();
     let mut turns = u64::MAX;
     while turns > 0 {
-        let q = next_request();
+        let q = next_request(&mut reader);
         if !q.whole {
             return;
         }
-        if !replied(q) {
+        if !replied(&mut writer, q) {
             return;
         }
         turns -= 1;
