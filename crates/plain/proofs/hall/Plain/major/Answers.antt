@@ -26,8 +26,8 @@ returns-else-both_ways c =
     let a = c.args in
     let taken-to = c.in-Takes.next in
     let said = c.opened-said.ensures in
-    let after = c.cycled-after.ensures ∙ ap (λ (l : List StringSaid). cycled l taken-to.0.0 true a.self) said in
-    step-takes (major a.r) a.self c.judged-v.ensures _ taken-to.1
+    let after = c.cycled-after.ensures ∙ ap (λ (l : List StringSaid). cycled l taken-to true a.self) said in
+    step-takes (major a.r) a.self c.judged-v.ensures _ c.in-Takes.is
     (c.both_ways.ensures ∙ ap (λ (l : List StringSaid). both_ways string_count l a.self.strings) said)
     c.if-both_ways.false
     (ap₂ (λ (p : Plain) (b : List Bank). record { n = p.n; strings = p.strings; banks = b }) after

@@ -15,8 +15,8 @@ returns-in-Takes c =
     let a = c.args in
     let taken-to = c.in-Takes.next in
     let said = c.opened-said.ensures ∙ opened-silent a.r 64 a.self.strings in
-    step-takes (minor a.r) a.self c.judged-v.ensures _ taken-to.1 refl refl
-    (c.cycled.ensures ∙ ap (λ (l : List StringSaid). cycled l taken-to.0.0 false a.self) said)
+    step-takes (minor a.r) a.self c.judged-v.ensures _ c.in-Takes.is refl refl
+    (c.cycled.ensures ∙ ap (λ (l : List StringSaid). cycled l taken-to false a.self) said)
 
 pub returns-in-Refuses : goal.returns-in-Refuses
 returns-in-Refuses c =
