@@ -10,9 +10,7 @@ use Rattle.feed.specs.Call.{call, started_over}
 use Rattle.cycle.specs.declared.answer.Answer.TheVariants.{Taken}
 use Rattle.promises.specs.Outcomes.{OneOutcome}
 use Rattle.cycle.specs.contracts.answer.Answer.number as answer-number
-use Rattle.cycle.proofs.answer.Answer.number.Reads as answer-number-reads
 use Rattle.feed.specs.contracts.call.Monitor.call as monitor-call
-use Rattle.feed.proofs.call.Monitor.call.Reads as monitor-call-reads
 
 -- the bound alone leaves the number open
 pub bound-alone : OneOutcome answer-number.ended (λ κs a x s. x < 256) → ⊥
