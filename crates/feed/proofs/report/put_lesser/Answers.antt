@@ -14,7 +14,7 @@ loop-m-preserved c =
     put-part (word_shown (λ b. b.lesser) a.banks c.loop-m.m) c.loop-m.out y (lesser_from + lesser_length * c.loop-m.m)
     (lesser_from + lesser_length * c.loop-m.m + lesser_length) refl (search rules) c.put_two.ensures in
     putting-next a.out.now lesser_from lesser_length module_count _ c.loop-m.out y c.loop-m.m (λ k. refl)
-    (omega (arith, c.requires)) c.loop-m.invariant c.loop-m-test.true e c.out-1.given.1
+    (omega (arith, c.requires)) c.loop-m.invariant c.loop-m-test.true e (search rules)
 
 pub returns : goal.returns
 unfolding words_bytes
