@@ -1,9 +1,8 @@
 -- `writer::record::put_temperatures` meets its contract. Assumes nothing.
-use Prim.Native.Nat.{◌-◌}
 use borrow.Author.Rules.{rules}
 use Rattle.cycle.specs.Size.{string_count}
 use Rattle.feed.specs.Size.{temperatures_length}
-use Rattle.feed.proofs.Reports.Laying.{Laying, laying-none, laying-next, laying-end}
+use Rattle.feed.proofs.Reports.Laying.{laying-none, laying-next, laying-end}
 use Rattle.writer.specs.RecordBytes.{temperatures_shown, temperatures_bytes}
 use Rattle.writer.proofs.Lengths.{words-length}
 use Rattle.writer.proofs.record.put_temperatures.Goals as goal

@@ -1,10 +1,10 @@
 -- `writer::record::put_words` meets its contract. Assumes nothing.
 use mathlib.Core.Path.{refl}
-use Prim.Native.Nat.{◌+◌, ◌*◌, ◌-◌}
+use Prim.Native.Nat.{◌+◌, ◌*◌}
 use borrow.Author.Rules.{rules}
 use Rattle.feed.specs.Size.{temperature_count, temperature_length}
 use Rattle.feed.proofs.Reports.Written.{put-part}
-use Rattle.feed.proofs.Reports.Laying.{Laying, laying-none, laying-next, laying-end}
+use Rattle.feed.proofs.Reports.Laying.{laying-none, laying-next, laying-end}
 use Rattle.writer.specs.RecordBytes.{word_shown, words_bytes}
 use Rattle.writer.proofs.record.put_words.Goals as goal
 
