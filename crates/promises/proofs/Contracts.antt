@@ -1,6 +1,6 @@
 -- From the theorems to the code that runs: the contracts of the public functions, which the gate proves of their code, are about the very
 -- definitions that the front door speaks of, and ask nothing of a caller. Assumes nothing.
-use mathlib.Core.Path.{◌≡◌, sym, subst}
+use mathlib.Core.Path.{◌≡◌, sym, refl, subst}
 use lib.ListN.{length}
 use mathlib.Core.List.{[]}
 use base.Fml.{Lft}
@@ -11,6 +11,10 @@ use mir.Syntax.{Dict}
 use Rattle.std.specs.declared.io.traits.Read as Reading
 use Rattle.std.specs.declared.io.traits.Write as Writing
 use Rattle.std.specs.declared.time.Clock as Clock
+use Rattle.std.specs.contracts.rt.Stdin as stdin
+use Rattle.std.specs.contracts.rt.Stdout as stdout
+use Rattle.std.specs.contracts.rt.LibcRuntime as runtime
+use denote.Struct.Declared as struct_type
 use Rattle.cycle.specs.Hall.{stepped}
 use Rattle.cycle.specs.Records.{minor, major}
 use Rattle.feed.specs.Step.{step_of}
@@ -341,3 +345,24 @@ module _ (W C : RattleType) (lw : Laws W) (lc : Laws C) (r : Writing.Ghosts W.De
     (e : W.lives ≡ []) (f : C.lives ≡ []) where
   pub write-all-asks : AsksNothing (write-all.ended W C r dr k dk) (write-all-reads.Pre W C lw lc r dr k dk)
   write-all-asks κs a = (unborrowed _ W.lives e, unborrowed _ C.lives f)
+
+-- so standard input, standard output and the system's clock, of which nothing is asked at all
+abbrev input : RattleType
+input = struct_type.row stdin.the_type
+
+abbrev output : RattleType
+output = struct_type.row stdout.the_type
+
+abbrev host : RattleType
+host = struct_type.row runtime.the_type
+
+module _ (lr : Laws input) (lw : Laws output) (lc : Laws host) (r : Reading.Ghosts input.Denot) (w : Writing.Ghosts output.Denot)
+    (k : Clock.Ghosts host.Denot) (dr dw dk : Dict) where
+  pub stdin-ready-asks : AsksNothing (read-ready.ended input host r dr k dk) (read-ready-reads.Pre input host lr lc r dr k dk)
+  stdin-ready-asks = read-ready-asks input host lr lc r dr k dk refl refl
+
+  pub stdin-first-asks : AsksNothing (read_first.ended input host r dr k dk) (read_first-reads.Pre input host lr lc r dr k dk)
+  stdin-first-asks = read-first-asks input host lr lc r dr k dk refl refl
+
+  pub stdout-all-asks : AsksNothing (write-all.ended output host w dw k dk) (write-all-reads.Pre output host lw lc w dw k dk)
+  stdout-all-asks = write-all-asks output host lw lc w dw k dk refl refl
