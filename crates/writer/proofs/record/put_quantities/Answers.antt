@@ -12,7 +12,7 @@ loop-m-preserved c =
     let a = c.args in
     let y = c.put_quantity.new.b in
     laying-next quantities_length module_count (quantities_shown a.quantities) a.b.now c.loop-m.b y c.loop-m.m (λ j. quantity-length _)
-    c.loop-m.invariant c.loop-m-test.true c.put_quantity.ensures c.b-1.given.1
+    c.loop-m.invariant c.loop-m-test.true c.put_quantity.ensures (search rules)
 
 pub returns : goal.returns
 unfolding quantities_bytes

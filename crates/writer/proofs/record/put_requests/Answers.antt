@@ -12,7 +12,7 @@ loop-s-preserved c =
     let a = c.args in
     let y = c.put_request.new.b in
     laying-next requests_length string_count (requests_shown a.requests) a.b.now c.loop-s.b y c.loop-s.s (λ j. request-length _)
-    c.loop-s.invariant c.loop-s-test.true c.put_request.ensures c.b-1.given.1
+    c.loop-s.invariant c.loop-s-test.true c.put_request.ensures (search rules)
 
 pub returns : goal.returns
 unfolding requests_bytes

@@ -12,7 +12,7 @@ loop-s-preserved c =
     let a = c.args in
     let y = c.put_sample.new.b in
     laying-next sample_length string_count (sample_shown a.samples) a.b.now c.loop-s.b y c.loop-s.s (λ j. sample-length _)
-    c.loop-s.invariant c.loop-s-test.true c.put_sample.ensures c.b-1.given.1
+    c.loop-s.invariant c.loop-s-test.true c.put_sample.ensures (search rules)
 
 pub returns : goal.returns
 unfolding samples_bytes

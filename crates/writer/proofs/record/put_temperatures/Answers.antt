@@ -12,7 +12,7 @@ loop-s-preserved c =
     let a = c.args in
     let y = c.put_words.new.b in
     laying-next temperatures_length string_count (temperatures_shown a.temperatures) a.b.now c.loop-s.b y c.loop-s.s (λ j. words-length _)
-    c.loop-s.invariant c.loop-s-test.true c.put_words.ensures c.b-1.given.1
+    c.loop-s.invariant c.loop-s-test.true c.put_words.ensures (search rules)
 
 pub returns : goal.returns
 unfolding temperatures_bytes
