@@ -23,7 +23,7 @@ def files(pattern):
 
 def place(module, name):
     """Where a name of this repository is: its file and the definition, or a source file and the type declared there."""
-    found = re.match(r"Rattle·(\w+)(?:·specs)?\.((?:specs|proofs)\..+)", re.sub("[«»]", "", module))
+    found = re.match(rf"Rattle\.({'|'.join(CRATES)})\.((?:specs|proofs)\..+)", re.sub("[«»]", "", module))
     if not found:
         return None
     if declared := re.match(r"specs\.declared\.(\w+)\.(\w+)", found[2]):
@@ -58,33 +58,35 @@ def aliases(path):
 def scope(path):
     """What the names of a file stand for."""
     names, text = {}, text_of(path)
-    for module, listed in re.findall(r"^(?:ghost )?use (\S+?)\.\{([^}\n]*)", text, re.M):
-        for name in re.split(r",\s*", listed):
+    for module, listed in re.findall(r"^(?:ghost )?use (\S+?)\.\{([^}]*)", text, re.M):
+        for name in re.split(r",\s*", listed.strip()):
             if at := place(module, name):
                 names[name] = at
     if path.endswith(".rt"):
-        for crate, module, name in re.findall(rf"^use (crate|{'|'.join(CRATES)})::(\w+)::([A-Z]\w*[a-z]\w*);", text, re.M):
-            names[name] = (f"crates/{path.split('/')[1] if crate == 'crate' else crate}/src/{module}.rt", name)
+        for crate, module, listed in re.findall(rf"^use (crate|{'|'.join(CRATES)})::(\w+)::(\w+|\{{[^}}]*\}});", text, re.M):
+            for name in re.findall(r"\b[A-Z]\w*[a-z]\w*", listed):
+                names[name] = (f"crates/{path.split('/')[1] if crate == 'crate' else crate}/src/{module}.rt", name)
     if path not in FRONT:
         names |= {name: (path, name) for name in definitions(path)} | {c: (path, name) for c, name in constructors(path).items()}
     return names
 
 
 def words(text):
-    """The names in a text, `alias.name` as one, without projections `x .field` and the fields that a record is written with."""
-    text = re.sub(r"(?<![^\s(])\.[^\s(){};,.]+", " ", text)
-    return re.findall(r"[^\s(){}\[\];,.:]+(?:\.[^\s(){}\[\];,.:]+)?(?! =\s)(?=[\s(){}\[\];,.:]|$)", text)
+    """The names in a text, `alias.name` and `x.field` as one, without projections `(f x).field` and the fields that a record is written
+    with."""
+    text = re.sub(r"(?<=\))(?:\.[^\s(){}\[\];,.:]+)+", " ", text)
+    return re.findall(r"[^\s(){}\[\];,.:]+(?:\.[^\s(){}\[\];,.:]+)*(?! =\s)(?=[\s(){}\[\];,.:]|$)", text)
 
 
 def named(path, text):
     """What a definition or a statement of a file names."""
     found = []
     for word in words(text):
-        alias, _, name = word.partition(".")
-        if name and alias in aliases(path):
-            found.append(place(aliases(path)[alias], name))
+        first, *rest = word.split(".")
+        if rest and first in aliases(path):
+            found.append(place(aliases(path)[first], rest[0]))
         else:
-            found += [scope(path).get(part) for part in word.split(".")]
+            found.append(scope(path).get(first))
     return [at for at in found if at]
 
 
@@ -115,7 +117,7 @@ def contracts():
     start = []
     for path in files("src/**/*.rt"):
         for head in re.findall(r"^ *pub fn (?:.*\n)*?(?= *\{$)", text_of(path), re.M):
-            start += [at for said in re.findall(r"ensures \{(.*)\}", head) for at in named(path, said)]
+            start += [at for said in re.findall(r"ensures (?:\w+ )?\{(.*)\}", head) for at in named(path, said)]
     return start
 
 

@@ -2,6 +2,7 @@
 // ends, stays within its memory, and reads no half record as a whole one. What each function does is one definition of specs/; proofs/
 // has the laws.
 #![tactic(auto)]
+
 pub mod bytes;
 pub mod call;
 mod calm;

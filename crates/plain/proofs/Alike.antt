@@ -40,7 +40,7 @@ use Rattle.feed.proofs.Records.Tables.{table_at, table-length}
 use Rattle.feed.proofs.Reports.Parts.{parts_same}
 use Rattle.plain.specs.Jet.{fresh_on, with_state, mapped_jet}
 use Rattle.plain.specs.Said.{past_string}
-use Rattle.plain.specs.Map.{place_in, fresh_string, refused}
+use Rattle.plain.specs.Map.{place_in, fresh_string}
 use Rattle.plain.specs.String.{jet_at}
 use Rattle.plain.specs.Hall.{string_at, fresh_plain, started, stepped}
 use Rattle.plain.specs.Shown.{fail_word, close_word, shown_of}

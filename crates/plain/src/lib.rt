@@ -4,6 +4,7 @@
 // over this engine, with the reader and the report of `feed`. That on every run of records from fresh it gives what the packed engine of
 // `cycle` gives is proved (proofs/).
 #![tactic(auto)]
+
 pub mod call;
 pub mod hall;
 pub mod jet;

@@ -4,7 +4,8 @@ use mathlib.Core.List.{List, [], ◌∷◌}
 use Prim.Native.Nat.{ℕ, ◌<◌}
 use native.Mathlib.Omega.{arith}
 use lib.ListN.{length}
-use denote.Ref.{Bor}
+use denote.Bor.{Bor}
+use denote.MutBor.{MutBor}
 use Rattle.feed.specs.Call.{call, started_over}
 use Rattle.cycle.specs.declared.answer.Answer.TheVariants.{Taken}
 use Rattle.promises.specs.Outcomes.{OneOutcome}
@@ -23,6 +24,7 @@ bound-alone one =
 pub result-alone : OneOutcome monitor-call.ended (λ κs a x s. x ≡ (call a.0 a.1.0.now a.1.1.0.now).outcome) → ⊥
 result-alone one =
     let lent : Bor (List ℕ) = record { ref_ptr = (0, 0); now = [] } in
-    let here = one ([], ([], tt)) ((started_over []).monitor, (lent, (lent, tt))) _ _ (tt, (tt, ([], tt))) (tt, (tt, (0 ∷ [], tt))) in
+    let outbox : MutBor (List ℕ) = record { ref_ptr = (0, 0); ghost_name = 0; now = [] } in
+    let here = one ([], ([], tt)) ((started_over []).monitor, (lent, (outbox, tt))) _ _ (tt, (tt, ([], tt))) (tt, (tt, (0 ∷ [], tt))) in
     let longer : ◌≡◌ {A = ℕ} 0 1 = ap (λ w. length w.1.1.0) (here refl refl).1 in
     absurd (omega arith)

@@ -2,6 +2,7 @@
 // sends what it writes sends only whole records, and the reader gives the values back. Above the record format of `feed` and the structs
 // of `cycle`, and seeing only their claims. What each function does is one definition of specs/; proofs/ has the laws.
 #![tactic(auto)]
+
 pub mod answer;
 pub mod record;
 pub mod test;

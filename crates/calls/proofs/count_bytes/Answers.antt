@@ -1,5 +1,4 @@
 -- `calls::count_bytes` meets its contract. Assumes nothing.
-use borrow.Author.Rules.{rules}
 use mathlib.Core.Path.{ap, ◌∙◌}
 use mathlib.Core.List.{append-nil}
 use Rattle.feed.specs.Bytes.{in_two}

@@ -7,7 +7,6 @@ use Rattle.cycle.specs.Size.{string_count, jet_count, manifold_count, last_count
 use Rattle.cycle.specs.Answers.{is_taken}
 use Rattle.cycle.specs.Jets.{JetRecord, run, asked_since_drop}
 use Rattle.cycle.specs.Map.{masks_of, InMask, FitMap, refused}
-use Rattle.cycle.specs.Records.{Record}
 use Rattle.cycle.specs.Hall.{string_of, fresh_hall, started, verdict_on, stepped_by, stepped}
 use Rattle.cycle.specs.Views.{jet_of}
 use Rattle.cycle.specs.Inside.Runs.{TakenRecord}

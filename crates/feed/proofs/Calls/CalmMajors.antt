@@ -1,6 +1,6 @@
 -- A calm major record is settled by a call as the shortcut says: it is taken, only the number, the good copies and the banks change, and
 -- its report is the one before with another number and other banks. Assumes nothing.
-use Rattle.std.proofs.Common.{◌≡◌, ℕ, ◌+◌, ◌-◌, ◌*◌, ◌<◌, ◌≤◌, Bool, true, cond, not, ◌&&◌, eqb, ltb, List, length, get_or, drop, sym, refl, ap, ◌∙◌, ap₂, inr, arith, ltb-true, eqb-true}
+use Rattle.std.proofs.Common.{◌≡◌, ℕ, ◌+◌, ◌-◌, ◌*◌, ◌<◌, ◌≤◌, Bool, true, cond, not, ◌&&◌, eqb, ltb, List, length, get_or, sym, refl, ap, ◌∙◌, ap₂, inr, arith, ltb-true, eqb-true}
 use Rattle.bits.specs.Bit.{any, every}
 use Rattle.bits.proofs.Every.{every-at, every-same}
 use Rattle.bits.proofs.Yes.{and_left, and_right, and_both}

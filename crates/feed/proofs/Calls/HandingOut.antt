@@ -1,6 +1,6 @@
 -- The reader by itself: how long a record is that it hands out; and a call is what it hands out, stepped by and reported.
 -- Assumes nothing.
-use Rattle.std.proofs.Common.{◌≡◌, ℕ, ◌-◌, ◌<◌, ◌≤◌, Bool, true, false, eqb, List, length, take, refl, arith, length-take-le, ne_eqb}
+use Rattle.std.proofs.Common.{◌≡◌, ℕ, ◌<◌, ◌≤◌, Bool, true, false, eqb, List, length, take, refl, arith, length-take-le, ne_eqb}
 use Rattle.cycle.specs.Hall.{stepped}
 use Rattle.cycle.specs.declared.hall.Hall.{Hall}
 use Rattle.feed.specs.Size.{store_length, least_length}

@@ -1,6 +1,6 @@
 -- A record that the monitor holds the first bytes of, none to begin with, and whose others come next: it is settled by the very call that
 -- brings its last byte, and by none before. Assumes nothing.
-use Rattle.std.proofs.Common.{◌≡◌, ℕ, ◌+◌, ◌<◌, ◌≤◌, true, ◌⊎◌, List, [], ◌++◌, length, take, drop, sym, refl, ap, ◌∙◌, subst, ap₂, inl, inr, append_assoc, append-nil, arith, length-append, take-append-drop, length-take-le, take_at}
+use Rattle.std.proofs.Common.{◌≡◌, ℕ, ◌<◌, ◌≤◌, true, ◌⊎◌, List, [], ◌++◌, length, take, drop, sym, refl, ap, ◌∙◌, subst, ap₂, inl, inr, append_assoc, append-nil, arith, length-append, take-append-drop, length-take-le, take_at}
 use lib.Seq.{take-length}
 use Rattle.cycle.specs.Answers.{writes_report}
 use Rattle.cycle.specs.declared.answer.Answer.TheVariants.{NothingSettled}

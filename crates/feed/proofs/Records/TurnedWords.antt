@@ -1,6 +1,6 @@
 -- Words with their bytes in the other order: jets are commanded without pressure by the ones exactly if they are by the others, since bits
 -- are told byte by byte. Assumes nothing.
-use Rattle.std.proofs.Common.{◌≡◌, ℕ, ◌+◌, ◌*◌, ◌/◌, ◌%◌, ◌^◌, ◌<◌, ◌≤◌, Bool, ◌&&◌, eqb, List, length, get_or, sym, refl, ap, ◌∙◌, ap₂, ⊎_elim, eq-or-lt_of_le, arith, eq-eqb, eqb-true}
+use Rattle.std.proofs.Common.{◌≡◌, ℕ, ◌+◌, ◌*◌, ◌/◌, ◌%◌, ◌^◌, ◌<◌, ◌≤◌, Bool, ◌&&◌, eqb, List, length, get_or, sym, ap, ◌∙◌, ap₂, ⊎_elim, eq-or-lt_of_le, arith, eq-eqb, eqb-true}
 use lib.Bits.{bit_and, bit_xor, and_block, xor_block, and_lt}
 use Rattle.bits.specs.Bit.{word_bits, without}
 use Rattle.bits.proofs.Yes.{same-yes}

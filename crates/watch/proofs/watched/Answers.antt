@@ -1,133 +1,93 @@
 -- `watch::watched` meets its contract: there are a feed and calls that hand in what has been read, and the monitor is the one after them.
 -- Assumes nothing.
-use Rattle.std.proofs.Common.{◌≡◌, ℕ, ◌+◌, ◌-◌, ◌%◌, ◌^◌, ◌≤◌, length, take, drop, sym, refl, ap, ◌∙◌, subst, inl, inr, ⊎_elim, arith, length-drop, length-take, length-take-le, rules}
+use Rattle.std.proofs.Common.{◌≡◌, ℕ, ◌+◌, ◌-◌, ◌%◌, ◌^◌, ◌≤◌, List, length, take, drop, sym, refl, ap, ◌∙◌, inl, inr, arith, length-drop, length-take}
 use Rattle.feed.specs.Size.{map_length, outbox_needed}
+use Rattle.feed.specs.Call.{runs}
+use Rattle.feed.specs.declared.call.Monitor.{Monitor}
 use Rattle.feed.proofs.Calls.RunLaws.{runs-within}
-use Rattle.feed.proofs.Calls.Running.{written-within}
-use Rattle.lines.specs.Lines.{largest_count}
-use Rattle.lines.specs.Ending.{EndedBy}
-use Rattle.lines.specs.declared.line.Line.TheVariants.{Open, NoRoom}
+use Rattle.lines.specs.declared.line.Line.TheVariants.{NoRoom}
 use Rattle.lines.proofs.Failures.{not-true}
-use Rattle.lines.proofs.EndingTold.{ended-turned, ended-at-line}
-use Rattle.watch.specs.Watched.{Watched}
+use Rattle.lines.proofs.EndingTold.{ended-at-line}
 use Rattle.watch.proofs.Watching.{begins, reported, goes_on, goes-on-read, at_places}
 use Rattle.watch.proofs.watched.Goals as goal
-use Rattle.watch.proofs.watched.Goals.{After-run-arg-in-loop-turns-1, After-run-r}
+use Rattle.watch.proofs.watched.Goals.{then-not-r+in-Open-line, else-not-r}
 
 pub loop-turns-init : goal.loop-turns-init
-loop-turns-init c =
+loop-turns-init g c =
     let left = take (c.args.read - map_length) (drop map_length c.args.input.now) in
     let there = c.requires.map_length_le_read in
     let long : length left ≡ c.args.read - map_length = simp (length-take, length-drop) (omega (arith, there)) in
     let fed : c.args.read - map_length ≡ length left % 2 ^ 64 = omega (arith, long, c.ranges.read.fits) in
     (refl, refl, there.0, there.1, omega arith, begins c.args.start _ c.requires.fresh _ left fed)
 
--- there is room for a call
-room : (c : goal.After-run-r) → outbox_needed ≤ length c.loop-turns.out
-room c =
-    omega (arith, c.requires.outbox_needed_in_bounds, c.loop-turns.invariant.1)
-
 -- a run uses no more than is there
-run-used : (c : goal.After-run-r) → c.loop-turns.at + c.run-r.result.used ≤
-    c.loop-turns.n
-run-used c =
-    let l = c.loop-turns in
-    let there : c.run-r.result.used ≤ length (take (l.n - l.at) (drop l.at l.input)) =
-    rw c.run-r.ensures.used (runs-within (length l.out) (length l.out) l.m (take (l.n - l.at) (drop l.at l.input))) in
-    let most : length (take (l.n - l.at) (drop l.at l.input)) ≤ l.n - l.at = simp length-take (omega arith) in
-    omega (arith, l.invariant.2)
-
--- and writes within the outbox
-run-wrote : (c : goal.After-run-r) → c.run-r.result.written ≤ length c.run-r.new.out
-run-wrote c =
-    let kept = c.run-r.auto.out in
-    omega (arith, written-within _ c.loop-turns.out c.run-r.result c.run-r.new.out c.run-r.ensures kept)
-
-pub slice_bounds-write_reports-end-in-loop-turns : goal.slice_bounds-write_reports-end-in-loop-turns
-slice_bounds-write_reports-end-in-loop-turns c = run-wrote (goal.at.slice_bounds-write_reports-end-in-loop-turns c).After-run-r
-
-pub slice_bounds-write_reports-end-in-loop-turns-2 : goal.slice_bounds-write_reports-end-in-loop-turns-2
-slice_bounds-write_reports-end-in-loop-turns-2 c =
-    sym (length-take-le c.run-r.result.written c.run-r.new.out (run-wrote (goal.at.slice_bounds-write_reports-end-in-loop-turns-2 c).After-run-arg-in-loop-turns-1))
+run-used : (room at n used : ℕ) (m : Monitor) (input : List ℕ) → used ≡ (runs room m (take (n - at) (drop at input))).used → at ≤ n
+    → at + used ≤ n
+run-used room at n used m input e before =
+    let there : used ≤ length (take (n - at) (drop at input)) = rw e (runs-within room room m (take (n - at) (drop at input))) in
+    let most : length (take (n - at) (drop at input)) ≤ n - at = simp length-take (omega arith) in
+    omega arith
 
 pub write_reports-put-requires : goal.write_reports-put-requires
-write_reports-put-requires c =
+write_reports-put-requires g c =
     let l = c.loop-turns in
-    reported c.args.start l.m l.turns l.fed l.told l.at l.n l.input l.out
-    c.run-r.result c.run-r.new.out l.invariant.5 (room (goal.at.write_reports-put-requires c).After-run-arg-in-loop-turns-1) c.run-r.ensures
+    let room : outbox_needed ≤ length l.out = omega (arith, c.requires.outbox_needed_in_bounds, l.invariant.1) in
+    reported c.args.start l.m l.turns l.fed l.told l.at l.n l.input l.out c.run-r.result c.run-r.new.out l.invariant.5 room c.run-r.ensures
 
 pub returns-in_default : goal.returns-in_default
-returns-in_default c =
+returns-in_default g c =
     let r = c.write_reports-put in
-    let shut : r.result.line ≡ Open → ⊥ = λ e.
-    ⊎_elim (λ w. omega arith) (⊎_elim (λ w. omega arith) (λ w. omega arith)) (rw e at c.in_default.in_default-own.keys2) in
-    subst EndedBy (sym c.ended_at.ensures) (ended-at-line _ _ _ (inr refl) r.ensures.told.given_up shut r.ensures.full)
-
-pub overflow_add-at : goal.overflow_add-at
-overflow_add-at c =
-    omega (arith, run-used (goal.at.overflow_add-at c).After-run-arg-in-loop-turns-1, c.loop-turns.invariant)
-
-pub shape_of-input-in_default-line : goal.shape_of-input-in_default-line
-shape_of-input-in_default-line c =
-    c.read_ready-got.auto.input ∙ c.loop-turns.invariant.0
-
-pub shape_of-out-in_default-line : goal.shape_of-out-in_default-line
-shape_of-out-in_default-line c =
-    c.run-r.kept.out ∙ c.loop-turns.inv.1
+    rw c.ended_at.ensures (ended-at-line _ _ _ (inr refl) r.ensures.told.given_up c.in_default.not-Open r.ensures.full)
 
 pub returns-in_default-line : goal.returns-in_default-line
-returns-in_default-line c =
+returns-in_default-line g c =
     let r = c.read_ready-got in
-    let shut : r.result.line ≡ Open → ⊥ = λ e.
-    ⊎_elim (λ w. omega arith) (⊎_elim (λ w. omega arith) (λ w. omega arith)) (rw e at c.in_default-line.in_default-line-own.keys2) in
     let room : r.result.line ≡ NoRoom → ⊥ = λ e.
-    omega (arith, r.ensures.full e, r.auto.0, c.loop-turns.inv.0, c.pre.1.0) in
-    subst EndedBy (sym c.ended_at-in_default-line.ensures) (ended-at-line _ _ _ (inl refl) r.ensures.told.given_up shut room)
+    omega (arith, r.ensures.full e, r.auto.buf, c.loop-turns.invariant.0, c.requires.map_length_le_read) in
+    rw c.ended_at-in_default-line.ensures
+    (ended-at-line _ _ _ (inl refl) r.ensures.told.given_up c.in_default-line.not-Open room)
 
-pub overflow_add-turns : goal.overflow_add-turns
-overflow_add-turns c =
-    omega (arith, c.loop-turns-test.true)
-
-pub loop-turns-smaller : goal.loop-turns-smaller
-loop-turns-smaller c =
-    omega (arith, c.loop-turns-test.true)
+pub overflow_add-at : goal.overflow_add-at
+overflow_add-at g c =
+    let l = c.loop-turns in
+    let used = run-used (length l.out) l.at l.n c.run-r.result.used l.m l.input c.run-r.ensures.used l.invariant.2 in
+    omega (arith, l.auto.n-fits)
 
 pub loop-turns-preserved : goal.loop-turns-preserved
-loop-turns-preserved c =
+loop-turns-preserved g c =
     let l = c.loop-turns in
     let start = c.args.start in
     let ran = c.run-r.ensures in
+    let room : outbox_needed ≤ length l.out = omega (arith, c.requires.outbox_needed_in_bounds, l.invariant.1) in
     let out_long = c.run-r.auto.out ∙ l.invariant.1 in
     let below = c.loop-turns-test.true in
     let all = c.write_reports-put.ensures.all c.in-Open.is in
-    let told = c.wrapping_add_usize-told.ensures in
-    ⊎_elim
-    (λ w.
-    let long = w.2.kept.0 ∙ l.invariant.0 in
-    let got = w.2.ensures.told.within in
-    let next = take (c.if-not-r.n - c.if-not-r.at) (drop c.if-not-r.at c.if-not-r.input) in
-    let whole : length next ≡ w.2.result.bytes =
-    simp (length-take, length-drop) (omega (arith, got, w.9, w.10, ap length w.8)) in (
-      ap length w.8 ∙ long,
-      out_long,
-      omega (arith, w.9, w.10),
-      omega (arith, w.10, got, ap length w.8),
-      omega (arith, below),
-      goes-on-read start l.m l.turns l.fed l.told l.at l.n l.input l.out c.run-r.result
-          c.run-r.new.out l.invariant.5 (room (goal.at.loop-turns-preserved c).After-run-arg-in-loop-turns-1) ran _ _ c.if-not-r.fed all told (not-true _ w.0.taken) next
-          (w.11 ∙ w.7.ensures ∙ ap (λ (k : ℕ). (l.fed + k) % 2 ^ 64) (sym whole)),
-    ))
-    (λ w. (
-      ap length w.1 ∙ l.invariant.0,
-      out_long,
-      omega (arith, w.2, w.3, run-used (goal.at.loop-turns-preserved c).After-run-arg-in-loop-turns-1),
-      omega (arith, w.3, l.invariant.3, ap length w.1),
-      omega (arith, below),
-      at_places start _ _ _ _ _ _ _ _ _ _ _ w.1 w.2 w.3 w.4
-          (goes_on start l.m l.turns l.fed l.told l.at l.n l.input l.out c.run-r.result
-          c.run-r.new.out l.invariant.5 (room (goal.at.loop-turns-preserved c).After-run-arg-in-loop-turns-1) ran _ _ all told l.invariant.2 l.invariant.3 (run-used (goal.at.loop-turns-preserved c).After-run-arg-in-loop-turns-1)),
-    ))
-    c.if-not-r.branch
-
-pub returns : goal.returns
-returns c = ended-turned _ _ _ _ (omega arith)
+    let told = c.wrapping_add_usize-told.ensures.value in
+    let used = run-used (length l.out) l.at l.n c.run-r.result.used l.m l.input ran.used l.invariant.2 in
+    elim c.if-not-r.branch [
+      | then-not-r+in-Open-line w ↦
+          let got = w.read_ready-got.ensures.told.within in
+          let long = w.read_ready-got.auto.buf ∙ l.invariant.0 in
+          let next = take (c.if-not-r.n - c.if-not-r.at) (drop c.if-not-r.at c.if-not-r.input) in
+          let whole : length next ≡ w.read_ready-got.result.bytes =
+          simp (length-take, length-drop) (omega (arith, got, w.at-is, w.n-is, ap length w.input-is)) in (
+            ap length w.input-is ∙ long,
+            out_long,
+            omega (arith, w.at-is, w.n-is),
+            omega (arith, w.n-is, got, ap length w.input-is),
+            omega (arith, below),
+            goes-on-read start l.m l.turns l.fed l.told l.at l.n l.input l.out c.run-r.result c.run-r.new.out l.invariant.5 room ran _ _
+                c.if-not-r.fed all told (not-true _ w.if-not-r.true) next
+                (w.fed-is ∙ w.wrapping_add_usize-fed.ensures.value ∙ ap (λ (k : ℕ). (l.fed + k) % 2 ^ 64) (sym whole)),
+          )
+      | else-not-r w ↦ (
+        ap length w.input-is ∙ l.invariant.0,
+        out_long,
+        omega (arith, w.at-is, w.n-is, used),
+        omega (arith, w.n-is, l.invariant.3, ap length w.input-is),
+        omega (arith, below),
+        at_places start _ _ _ _ _ _ _ _ _ _ _ w.input-is w.at-is w.n-is w.fed-is
+            (goes_on start l.m l.turns l.fed l.told l.at l.n l.input l.out c.run-r.result c.run-r.new.out l.invariant.5 room ran _ _ all told
+            l.invariant.2 l.invariant.3 used),
+      )
+    ]

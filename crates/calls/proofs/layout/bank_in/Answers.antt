@@ -1,6 +1,5 @@
 -- `calls::layout::bank_in` meets its contract. Assumes nothing.
 use Rattle.calls.proofs.Laid.{bank-read}
-use borrow.Author.Rules.{rules}
 use Rattle.calls.proofs.layout.bank_in.Goals as goal
 
 pub returns : goal.returns

@@ -1,6 +1,5 @@
 -- `calls::layout::hall_in` meets its contract. Assumes nothing.
 use Rattle.calls.proofs.Laid.{hall-read}
-use borrow.Author.Rules.{rules}
 use Rattle.calls.proofs.layout.hall_in.Goals as goal
 
 pub returns : goal.returns

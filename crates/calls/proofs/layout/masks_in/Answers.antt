@@ -1,6 +1,5 @@
 -- `calls::layout::masks_in` meets its contract. Assumes nothing.
 use Rattle.calls.proofs.Laid.{masks-read}
-use borrow.Author.Rules.{rules}
 use Rattle.calls.proofs.layout.masks_in.Goals as goal
 
 pub returns : goal.returns

@@ -1,10 +1,6 @@
 -- `calls::layout::per_manifold` meets its contract. Assumes nothing.
-use borrow.Author.Rules.{rules}
 use mathlib.Core.Path.{refl}
-use Prim.Native.Nat.{◌+◌, ◌-◌}
-use Rattle.cycle.specs.Size.{manifold_count}
-use Rattle.feed.proofs.Records.Tables.{Filling, filling-none, filling-next, filling-end}
-use Rattle.calls.specs.Layout.{word_in}
+use Rattle.feed.proofs.Records.Tables.{filling-none, filling-next, filling-end}
 use Rattle.calls.proofs.layout.per_manifold.Goals as goal
 
 pub loop-m-preserved : goal.loop-m-preserved

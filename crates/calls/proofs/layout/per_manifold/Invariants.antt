@@ -1,9 +1,7 @@
 -- `calls::layout::per_manifold` meets its contract. Assumes nothing.
-use borrow.Author.Rules.{rules}
-use mathlib.Core.Path.{refl}
 use Prim.Native.Nat.{◌+◌, ◌-◌}
 use Rattle.cycle.specs.Size.{manifold_count}
-use Rattle.feed.proofs.Records.Tables.{Filling, filling-none, filling-next, filling-end}
+use Rattle.feed.proofs.Records.Tables.{Filling}
 use Rattle.calls.specs.Layout.{word_in}
 use Rattle.calls.proofs.layout.per_manifold.Given as goal
 

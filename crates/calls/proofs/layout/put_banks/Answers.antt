@@ -1,7 +1,6 @@
 -- `calls::layout::put_banks` meets its contract. Assumes nothing.
-use Prim.Native.Nat.{◌-◌}
 use lib.ListN.{get_or}
-use Rattle.feed.proofs.Reports.Laying.{Laying, laying-none, laying-next, laying-end}
+use Rattle.feed.proofs.Reports.Laying.{laying-none, laying-next, laying-end}
 use Rattle.calls.proofs.Laid.{bank-length}
 use Rattle.cycle.specs.Size.{module_count}
 use Rattle.cycle.specs.Banks.{no_bank}
@@ -15,7 +14,7 @@ loop-m-preserved c =
     let y = c.put_bank.new.b in
     laying-next bank_length module_count (λ j. in_bank (get_or a.banks j no_bank)) a.b.now c.loop-m.b y c.loop-m.m
     (λ j. bank-length (get_or a.banks j no_bank)) c.loop-m.invariant c.loop-m-test.true c.put_bank.ensures
-    c.b-1.given.1
+    (search rules)
 
 pub returns : goal.returns
 returns c =

@@ -1,12 +1,10 @@
 -- `calls::layout::put_banks` meets its contract. Assumes nothing.
 use Prim.Native.Nat.{◌-◌}
 use lib.ListN.{get_or}
-use Rattle.feed.proofs.Reports.Laying.{Laying, laying-none, laying-next, laying-end}
-use Rattle.calls.proofs.Laid.{bank-length}
+use Rattle.feed.proofs.Reports.Laying.{Laying}
 use Rattle.cycle.specs.Size.{module_count}
 use Rattle.cycle.specs.Banks.{no_bank}
 use Rattle.calls.specs.Layout.{bank_length, in_bank}
-use borrow.Author.Rules.{rules}
 use Rattle.calls.proofs.layout.put_banks.Given as goal
 
 abbrev pub invariant-loop-m : goal.invariant-loop-m

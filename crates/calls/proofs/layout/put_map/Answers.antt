@@ -1,6 +1,5 @@
 -- `calls::layout::put_map` meets its contract. Assumes nothing.
-use Prim.Native.Nat.{◌-◌}
-use Rattle.feed.proofs.Reports.Laying.{Laying, laying-none, laying-next, laying-end}
+use Rattle.feed.proofs.Reports.Laying.{laying-none, laying-next, laying-end}
 use Rattle.calls.proofs.Laid.{words-length}
 use Rattle.cycle.specs.Size.{string_count, manifold_count}
 use Rattle.cycle.specs.Map.{masks_of}
@@ -15,7 +14,7 @@ loop-s-preserved c =
     let y = c.put_masks.new.b in
     laying-next masks_length string_count (λ j. in_words manifold_count (masks_of a.masks j)) a.b.now c.loop-s.b y c.loop-s.s
     (λ j. words-length manifold_count (masks_of a.masks j)) c.loop-s.invariant c.loop-s-test.true c.put_masks.ensures
-    c.b-1.given.1
+    (search rules)
 
 pub returns : goal.returns
 returns c =

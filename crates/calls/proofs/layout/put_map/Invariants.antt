@@ -1,12 +1,10 @@
 -- `calls::layout::put_map` meets its contract. Assumes nothing.
 use Prim.Native.Nat.{◌-◌}
-use Rattle.feed.proofs.Reports.Laying.{Laying, laying-none, laying-next, laying-end}
-use Rattle.calls.proofs.Laid.{words-length}
+use Rattle.feed.proofs.Reports.Laying.{Laying}
 use Rattle.cycle.specs.Size.{string_count, manifold_count}
 use Rattle.cycle.specs.Map.{masks_of}
 use Rattle.feed.specs.Size.{masks_length}
 use Rattle.calls.specs.Layout.{in_words}
-use borrow.Author.Rules.{rules}
 use Rattle.calls.proofs.layout.put_map.Given as goal
 
 abbrev pub invariant-loop-s : goal.invariant-loop-s

@@ -1,7 +1,6 @@
 -- `calls::layout::put_strings` meets its contract. Assumes nothing.
-use Prim.Native.Nat.{◌-◌}
 use lib.ListN.{get_or}
-use Rattle.feed.proofs.Reports.Laying.{Laying, laying-none, laying-next, laying-end}
+use Rattle.feed.proofs.Reports.Laying.{laying-none, laying-next, laying-end}
 use Rattle.calls.proofs.Laid.{string-length}
 use Rattle.cycle.specs.Size.{string_count}
 use Rattle.cycle.specs.Hall.{past_string}
@@ -15,7 +14,7 @@ loop-s-preserved c =
     let y = c.put_string.new.b in
     laying-next string_length string_count (λ j. in_string (get_or a.strings j past_string)) a.b.now c.loop-s.b y c.loop-s.s
     (λ j. string-length (get_or a.strings j past_string)) c.loop-s.invariant c.loop-s-test.true c.put_string.ensures
-    c.b-1.given.1
+    (search rules)
 
 pub returns : goal.returns
 returns c =

@@ -1,12 +1,10 @@
 -- `calls::layout::put_strings` meets its contract. Assumes nothing.
 use Prim.Native.Nat.{◌-◌}
 use lib.ListN.{get_or}
-use Rattle.feed.proofs.Reports.Laying.{Laying, laying-none, laying-next, laying-end}
-use Rattle.calls.proofs.Laid.{string-length}
+use Rattle.feed.proofs.Reports.Laying.{Laying}
 use Rattle.cycle.specs.Size.{string_count}
 use Rattle.cycle.specs.Hall.{past_string}
 use Rattle.calls.specs.Layout.{string_length, in_string}
-use borrow.Author.Rules.{rules}
 use Rattle.calls.proofs.layout.put_strings.Given as goal
 
 abbrev pub invariant-loop-s : goal.invariant-loop-s

@@ -1,8 +1,8 @@
 -- `calls::layout::put_words` meets its contract. Assumes nothing.
-use Prim.Native.Nat.{◌+◌, ◌*◌, ◌-◌}
+use Prim.Native.Nat.{◌+◌, ◌*◌}
 use mathlib.Core.Path.{refl}
 use lib.ListN.{length, get_or}
-use Rattle.feed.proofs.Reports.Laying.{Laying, laying-none, laying-next, laying-end}
+use Rattle.feed.proofs.Reports.Laying.{laying-none, laying-next, laying-end}
 use Rattle.feed.specs.Size.{word_length}
 use Rattle.feed.specs.Bytes.{in_four}
 use Rattle.feed.proofs.Reports.Written.{put-part}
@@ -19,7 +19,7 @@ loop-k-preserved c =
     put-part (in_four (get_or w k 0)) c.loop-k.b y (word_length * k) (word_length * k + word_length) refl (search rules)
     c.put_four.ensures in
     laying-next word_length (length w) (λ j. in_four (get_or w j 0)) a.b.now c.loop-k.b y k (λ j. refl) c.loop-k.invariant
-    c.loop-k-test.true e c.b-1.given.1
+    c.loop-k-test.true e (search rules)
 
 pub returns : goal.returns
 returns c =

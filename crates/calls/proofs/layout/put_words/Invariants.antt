@@ -1,12 +1,9 @@
 -- `calls::layout::put_words` meets its contract. Assumes nothing.
-use Prim.Native.Nat.{◌+◌, ◌*◌, ◌-◌}
-use mathlib.Core.Path.{refl}
+use Prim.Native.Nat.{◌-◌}
 use lib.ListN.{length, get_or}
-use Rattle.feed.proofs.Reports.Laying.{Laying, laying-none, laying-next, laying-end}
+use Rattle.feed.proofs.Reports.Laying.{Laying}
 use Rattle.feed.specs.Size.{word_length}
 use Rattle.feed.specs.Bytes.{in_four}
-use Rattle.feed.proofs.Reports.Written.{put-part}
-use borrow.Author.Rules.{rules}
 use Rattle.calls.proofs.layout.put_words.Given as goal
 
 abbrev pub invariant-loop-k : goal.invariant-loop-k

@@ -1,6 +1,5 @@
 -- `calls::layout::standing_in` meets its contract. Assumes nothing.
 use Rattle.calls.proofs.Laid.{standing-read}
-use borrow.Author.Rules.{rules}
 use Rattle.calls.proofs.layout.standing_in.Goals as goal
 
 pub returns : goal.returns

@@ -1,6 +1,5 @@
 -- `calls::layout::string_in` meets its contract. Assumes nothing.
 use Rattle.calls.proofs.Laid.{string-read}
-use borrow.Author.Rules.{rules}
 use Rattle.calls.proofs.layout.string_in.Goals as goal
 
 pub returns : goal.returns

@@ -1,5 +1,5 @@
 -- `feed::bytes::byte_behind` meets its contract. Assumes nothing.
-use Rattle.std.proofs.Common.{sym, arith, rules}
+use Rattle.std.proofs.Common.{sym, arith}
 use lib.ListN.{get_or-eq_default}
 use Rattle.feed.proofs.bytes.byte_behind.Goals as goal
 

@@ -1,5 +1,5 @@
 -- `feed::bytes::read_four` meets its contract. Assumes nothing.
-use Rattle.std.proofs.Common.{◌∙◌, rules}
+use Rattle.std.proofs.Common.{◌∙◌}
 use Rattle.feed.proofs.Records.NumbersInBytes.{four-read}
 use Rattle.feed.proofs.bytes.read_four.Goals as goal
 

@@ -1,5 +1,5 @@
 -- `feed::bytes::read_two` meets its contract. Assumes nothing.
-use Rattle.std.proofs.Common.{◌∙◌, rules}
+use Rattle.std.proofs.Common.{◌∙◌}
 use Rattle.feed.proofs.Records.NumbersInBytes.{two-read}
 use Rattle.feed.proofs.bytes.read_two.Goals as goal
 

@@ -5,6 +5,6 @@ use Rattle.feed.proofs.bytes.turned32.Goals as goal
 
 pub returns : goal.returns
 returns c = record {
-      result_value = four-turned c.args.x (search rules);
-      value = (refl, search rules);
-    }
+  result_value = four-turned c.args.x (search rules);
+  value = (refl, search rules);
+}

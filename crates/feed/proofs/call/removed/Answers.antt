@@ -1,5 +1,5 @@
 -- `feed::call::removed` meets its contract. Assumes nothing.
-use Rattle.std.proofs.Common.{List, ◌++◌, drop, sym, refl, ap, length-take-le, rules}
+use Rattle.std.proofs.Common.{List, ◌++◌, drop, sym, refl, ap, length-take-le}
 use Rattle.feed.proofs.call.removed.Goals as goal
 
 pub slice_bounds-shift-end-then-held : goal.slice_bounds-shift-end-then-held

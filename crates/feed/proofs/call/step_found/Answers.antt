@@ -1,5 +1,5 @@
 -- `feed::call::step_found` meets its contract. Assumes nothing.
-use Rattle.std.proofs.Common.{ap, ◌∙◌, rules}
+use Rattle.std.proofs.Common.{ap, ◌∙◌}
 use Rattle.feed.specs.Step.{is_whole, step_of}
 use Rattle.feed.proofs.call.step_found.Goals as goal
 

@@ -1,6 +1,5 @@
 -- `feed::call::turn` meets its contract. Assumes nothing.
-use Rattle.std.proofs.Common.{ℕ, ◌≤◌, List, length, take, rules}
-use Rattle.feed.specs.Size.{most_held}
+use Rattle.std.proofs.Common.{take}
 use Rattle.feed.proofs.Calls.Turning.{taken-short, found-whole, found-fits, count_fits, held_fits, turn-none, turn-some}
 use Rattle.feed.proofs.call.turn.Goals as goal
 

@@ -1,5 +1,5 @@
 -- `feed::calm::calm_major` meets its contract. Assumes nothing.
-use Rattle.std.proofs.Common.{◌≡◌, ℕ, ◌+◌, ◌-◌, ◌<◌, List, true, false, take, drop, sym, refl, ap, ◌∙◌, arith, length-take-le}
+use Rattle.std.proofs.Common.{◌≡◌, ℕ, ◌+◌, ◌-◌, ◌<◌, true, false, take, drop, sym, refl, ap, ◌∙◌, arith, length-take-le}
 use native.Mathlib.Nat.{add-sub_cancel_left}
 use Rattle.cycle.specs.Size.{last_count}
 use Rattle.cycle.specs.Calm.{kept_all}

@@ -5,7 +5,7 @@ use Rattle.cycle.specs.Size.{string_count}
 use Rattle.cycle.specs.Calm.{follows, mapped_words}
 use Rattle.feed.specs.Size.{mark_byte, major_mark, wire_at}
 use Rattle.feed.specs.Bytes.{two}
-use Rattle.feed.specs.Inside.Calm.{leak_at, none_asked, all_still, major_passes}
+use Rattle.feed.specs.Inside.Calm.{leak_at, major_passes}
 use Rattle.feed.proofs.calm.major_passes.Goals as goal
 
 pub returns-then-s-ne-MARK : goal.returns-then-s-ne-MARK

@@ -1,5 +1,5 @@
 -- `feed::format::full_look` meets its contract. Assumes nothing.
-use Rattle.std.proofs.Common.{◌≡◌, ℕ, ◌≤◌, Bool, cond, List, length, ◌∙◌, rules, le-ltb, lt-ltb}
+use Rattle.std.proofs.Common.{◌≡◌, ℕ, ◌≤◌, Bool, cond, List, length, ◌∙◌, le-ltb, lt-ltb}
 use Rattle.feed.specs.Format.{row_of, length_of, good_kind, full_look}
 use Rattle.feed.specs.declared.format.Kind.{Kind}
 use Rattle.feed.specs.declared.format.Look.TheVariants.{Loses, Settles}

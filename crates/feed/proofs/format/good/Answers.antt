@@ -1,5 +1,5 @@
 -- `feed::format::good` meets its contract. Assumes nothing.
-use Rattle.std.proofs.Common.{◌∙◌, rules}
+use Rattle.std.proofs.Common.{◌∙◌}
 use Rattle.feed.specs.Format.{row_of}
 use Rattle.feed.proofs.format.good.Goals as goal
 

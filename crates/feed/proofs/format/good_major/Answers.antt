@@ -1,6 +1,6 @@
 -- `feed::format::good_major` meets its contract: what is left without the last span is right where the sum is, and only there.
 -- Assumes nothing.
-use Rattle.std.proofs.Common.{◌≡◌, ℕ, ◌&&◌, List, sym, ◌∙◌, arith, length-take-le, rules}
+use Rattle.std.proofs.Common.{◌≡◌, ℕ, ◌&&◌, List, sym, ◌∙◌, arith, length-take-le}
 use Rattle.feed.specs.Format.{reserved_zero, quantities_right, good_major}
 use Rattle.feed.proofs.Records.Sums.{rest-right, rest-of-right, major-sum, major-bad, major-reserved}
 use Rattle.feed.proofs.format.good_major.Goals as goal

@@ -1,6 +1,6 @@
 -- `feed::format::good_minor` meets its contract: what is left without a partial sum is right where the sum is, and only there.
 -- Assumes nothing.
-use Rattle.std.proofs.Common.{◌≡◌, ℕ, List, take, sym, ◌∙◌, arith, length-take-le, rules}
+use Rattle.std.proofs.Common.{◌≡◌, ℕ, List, take, sym, ◌∙◌, arith, length-take-le}
 use Rattle.feed.specs.Size.{minor_summed}
 use Rattle.feed.specs.Bytes.{two}
 use Rattle.feed.specs.Format.{sum_of}

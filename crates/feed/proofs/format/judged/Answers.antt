@@ -1,5 +1,4 @@
 -- `feed::format::judged` meets its contract. Assumes nothing.
-use Rattle.std.proofs.Common.{rules}
 use Rattle.feed.proofs.format.judged.Goals as goal
 
 pub returns-then-right : goal.returns-then-right

@@ -1,5 +1,5 @@
 -- `feed::format::length_marked` meets its contract. Assumes nothing.
-use Rattle.std.proofs.Common.{sym, ap, ◌∙◌, rules}
+use Rattle.std.proofs.Common.{sym, ap, ◌∙◌}
 use Rattle.feed.specs.Format.{length_marked}
 use Rattle.feed.proofs.format.length_marked.Goals as goal
 

@@ -1,5 +1,4 @@
 -- `feed::format::length_of` meets its contract. Assumes nothing.
-use Rattle.std.proofs.Common.{rules}
 use Rattle.feed.specs.Format.{row_of}
 use Rattle.feed.proofs.format.length_of.Goals as goal
 

@@ -1,5 +1,5 @@
 -- `feed::format::look_at` meets its contract. Assumes nothing.
-use Rattle.std.proofs.Common.{◌≡◌, sym, ◌∙◌, rules, eq-eqb, ne_eqb}
+use Rattle.std.proofs.Common.{◌≡◌, sym, ◌∙◌, eq-eqb, ne_eqb}
 use Rattle.feed.specs.Format.{marked_look, look}
 use Rattle.feed.proofs.Records.Looks.{look-marked}
 use Rattle.feed.proofs.format.look_at.Goals as goal

@@ -1,7 +1,6 @@
 -- `feed::format::mark_of` meets its contract. Assumes nothing.
 use Rattle.std.proofs.Common.{eq-eqb, ne_eqb}
 use Rattle.feed.specs.Format.{row_of, mark_of}
-use Rattle.std.proofs.Common.{rules}
 use Rattle.feed.proofs.format.mark_of.Goals as goal
 
 pub returns-then-b-eq-MINOR_MARK : goal.returns-then-b-eq-MINOR_MARK

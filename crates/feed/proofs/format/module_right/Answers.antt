@@ -1,5 +1,5 @@
 -- `feed::format::module_right` meets its contract. Assumes nothing.
-use Rattle.std.proofs.Common.{◌&&◌, leb, ap₂, rules}
+use Rattle.std.proofs.Common.{◌&&◌, leb, ap₂}
 use Rattle.feed.specs.Size.{most_quantity}
 use Rattle.feed.proofs.format.module_right.Goals as goal
 

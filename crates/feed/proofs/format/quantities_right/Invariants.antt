@@ -1,11 +1,9 @@
 -- `feed::format::quantities_right` meets its contract. Assumes nothing.
-use Rattle.std.proofs.Common.{◌≡◌, ◌+◌, ◌-◌, ◌*◌, ◌≤◌, ◌&&◌, ap, ◌∙◌, rules}
+use Rattle.std.proofs.Common.{◌≡◌, ◌+◌, ◌-◌, ◌*◌, ◌≤◌}
 use Rattle.bits.specs.Bit.{every}
-use Rattle.bits.proofs.Every.{every_more}
 use Rattle.cycle.specs.Size.{module_count}
-use Rattle.cycle.proofs.Loops.{ended}
 use Rattle.feed.specs.Size.{quantities_from, quantities_length}
-use Rattle.feed.specs.Format.{two_right, quantities_right}
+use Rattle.feed.specs.Format.{two_right}
 use Rattle.feed.proofs.format.quantities_right.Given as goal
 
 abbrev pub invariant-loop-m : goal.invariant-loop-m

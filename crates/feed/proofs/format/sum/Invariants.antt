@@ -1,7 +1,6 @@
 -- `feed::format::sum` meets its contract. The loop's invariant: after i bytes the sum is that of the first i. Assumes nothing.
-use Rattle.std.proofs.Common.{◌≡◌, ◌+◌, ◌-◌, ◌%◌, ◌^◌, ◌≤◌, length, take, refl, ap, ◌∙◌, ap₂, arith, take_all, rules}
-use Rattle.feed.specs.Format.{sum_of, total}
-use Rattle.feed.proofs.Records.Sums.{sum_more}
+use Rattle.std.proofs.Common.{◌≡◌, ◌-◌, ◌≤◌, length, take}
+use Rattle.feed.specs.Format.{sum_of}
 use Rattle.feed.proofs.format.sum.Given as goal
 
 abbrev pub invariant-loop-i : goal.invariant-loop-i

@@ -1,5 +1,5 @@
 -- `feed::format::sum_by_spans` meets its contract. The loop's invariant: the sum is that of the bytes before `at`. Assumes nothing.
-use Rattle.std.proofs.Common.{◌≡◌, ℕ, ◌+◌, ◌-◌, ◌%◌, ◌^◌, ◌≤◌, length, take, drop, refl, ap, ◌∙◌, ap₂, arith, rules}
+use Rattle.std.proofs.Common.{ℕ, ◌+◌, ◌%◌, ◌^◌, take, drop, refl, ap, ◌∙◌, ap₂, arith}
 use native.Mathlib.Nat.{add-sub_cancel_left}
 use Rattle.feed.specs.Format.{sum_of, total}
 use Rattle.feed.proofs.Records.Sums.{sum-span, sum-rest}

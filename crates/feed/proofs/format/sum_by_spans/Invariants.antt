@@ -1,9 +1,6 @@
 -- `feed::format::sum_by_spans` meets its contract. The loop's invariant: the sum is that of the bytes before `at`. Assumes nothing.
-use Rattle.std.proofs.Common.{◌≡◌, ℕ, ◌+◌, ◌-◌, ◌%◌, ◌^◌, ◌≤◌, length, take, drop, refl, ap, ◌∙◌, ap₂, arith, rules}
-use native.Mathlib.Nat.{add-sub_cancel_left}
-use Rattle.feed.specs.Format.{sum_of, total}
-use Rattle.feed.proofs.Records.Sums.{sum-span, sum-rest}
-use Rattle.feed.proofs.Reading.Found.{rest-whole}
+use Rattle.std.proofs.Common.{◌≡◌, ◌-◌, ◌≤◌, length, take}
+use Rattle.feed.specs.Format.{sum_of}
 use Rattle.feed.proofs.format.sum_by_spans.Given as goal
 
 abbrev pub invariant-loop-at : goal.invariant-loop-at

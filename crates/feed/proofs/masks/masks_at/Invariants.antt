@@ -1,12 +1,10 @@
 -- `feed::masks::masks_at` meets its contract. Assumes nothing.
-use Rattle.std.proofs.Common.{◌+◌, ◌-◌, ◌*◌, refl, ap, rules}
+use Rattle.std.proofs.Common.{◌+◌, ◌-◌, ◌*◌}
 use Rattle.cycle.specs.Size.{manifold_count}
 use Rattle.feed.specs.Size.{word_length}
 use Rattle.feed.specs.Bytes.{four}
-use Rattle.feed.specs.Masks.{mask_words_at}
 use Rattle.feed.specs.Inside.MapWords.{WordMasks}
-use Rattle.feed.proofs.Records.Tables.{Filling, filling-none, filling-next, filling-end}
-use Rattle.feed.proofs.Records.MapWords.{word_none, word_set}
+use Rattle.feed.proofs.Records.Tables.{Filling}
 use Rattle.feed.proofs.masks.masks_at.Given as goal
 
 abbrev pub invariant-loop-k : goal.invariant-loop-k

@@ -1,10 +1,9 @@
 -- `feed::masks::masks_of` meets its contract. Assumes nothing.
-use Rattle.std.proofs.Common.{◌-◌, ◌*◌, refl, rules}
+use Rattle.std.proofs.Common.{refl}
 use Rattle.cycle.specs.Size.{string_count}
-use Rattle.feed.specs.Size.{masks_length}
-use Rattle.feed.specs.Masks.{masks_at, masks_of_bytes}
-use Rattle.feed.proofs.Records.Tables.{Filling, filling-none, filling-next, filling-end}
-use Rattle.feed.proofs.Records.MapWords.{WordMap, map-none, map-set}
+use Rattle.feed.specs.Masks.{masks_of_bytes}
+use Rattle.feed.proofs.Records.Tables.{filling-none, filling-next, filling-end}
+use Rattle.feed.proofs.Records.MapWords.{map-none, map-set}
 use Rattle.feed.proofs.masks.masks_of.Goals as goal
 
 pub loop-k-preserved : goal.loop-k-preserved

@@ -1,10 +1,10 @@
 -- `feed::masks::masks_of` meets its contract. Assumes nothing.
-use Rattle.std.proofs.Common.{◌-◌, ◌*◌, refl, rules}
+use Rattle.std.proofs.Common.{◌-◌, ◌*◌}
 use Rattle.cycle.specs.Size.{string_count}
 use Rattle.feed.specs.Size.{masks_length}
-use Rattle.feed.specs.Masks.{masks_at, masks_of_bytes}
-use Rattle.feed.proofs.Records.Tables.{Filling, filling-none, filling-next, filling-end}
-use Rattle.feed.proofs.Records.MapWords.{WordMap, map-none, map-set}
+use Rattle.feed.specs.Masks.{masks_at}
+use Rattle.feed.proofs.Records.Tables.{Filling}
+use Rattle.feed.proofs.Records.MapWords.{WordMap}
 use Rattle.feed.proofs.masks.masks_of.Given as goal
 
 abbrev pub invariant-loop-k : goal.invariant-loop-k

@@ -1,5 +1,5 @@
 -- `feed::reader::all_noise` meets its contract. Assumes nothing.
-use Rattle.std.proofs.Common.{◌≡◌, ◌-◌, ◌≤◌, not, eqb, length, get_or, rules}
+use Rattle.std.proofs.Common.{not, eqb, get_or, rules}
 use Rattle.bits.specs.Bit.{every}
 use Rattle.bits.proofs.Every.{every_more}
 use Rattle.cycle.proofs.Loops.{ended}

@@ -1,8 +1,6 @@
 -- `feed::reader::all_noise` meets its contract. Assumes nothing.
-use Rattle.std.proofs.Common.{◌≡◌, ◌-◌, ◌≤◌, not, eqb, length, get_or, rules}
+use Rattle.std.proofs.Common.{◌≡◌, ◌-◌, ◌≤◌, not, eqb, length, get_or}
 use Rattle.bits.specs.Bit.{every}
-use Rattle.bits.proofs.Every.{every_more}
-use Rattle.cycle.proofs.Loops.{ended}
 use Rattle.feed.specs.Size.{mark_byte}
 use Rattle.feed.proofs.reader.all_noise.Given as goal
 

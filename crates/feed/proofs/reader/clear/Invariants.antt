@@ -1,7 +1,5 @@
 -- `feed::reader::clear` meets its contract. The loop's invariant: the first i places are 0. Assumes nothing.
-use Rattle.feed.proofs.Reading.Moves.{cleared-all}
-use Rattle.std.proofs.Common.{◌≡◌, ◌-◌, ◌≤◌, ◌++◌, length, drop, replicate, refl, ◌∙◌, arith, length-set, rules}
-use borrow.Author.Fill.{fill_more}
+use Rattle.std.proofs.Common.{◌≡◌, ◌-◌, ◌≤◌, ◌++◌, length, drop, replicate}
 use Rattle.feed.proofs.reader.clear.Given as goal
 
 abbrev pub invariant-loop-i : goal.invariant-loop-i

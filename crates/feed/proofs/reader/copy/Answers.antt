@@ -1,5 +1,5 @@
 -- `feed::reader::copy` meets its contract. The loop's invariant: the first i bytes are copied. Assumes nothing.
-use Rattle.std.proofs.Common.{◌≡◌, ◌-◌, ◌≤◌, ◌++◌, length, take, drop, refl, ◌∙◌, arith, length-set, rules}
+use Rattle.std.proofs.Common.{refl, ◌∙◌, arith, length-set, rules}
 use Rattle.feed.proofs.Reading.Moves.{copied, copied_all}
 use Rattle.feed.proofs.reader.copy.Goals as goal
 
@@ -7,12 +7,11 @@ pub loop-i-init : goal.loop-i-init
 loop-i-init c = (omega arith, search rules, refl)
 
 pub loop-i-preserved : goal.loop-i-preserved
-loop-i-preserved c =
-    (
-      search rules,
-      simp length-set c.loop-i.invariant.1,
-      rw c.loop-i.invariant.2 (copied c.args.from.now c.args.to.now c.loop-i.i (omega arith) (omega arith)),
-    )
+loop-i-preserved c = (
+  search rules,
+  simp length-set c.loop-i.invariant.1,
+  rw c.loop-i.invariant.2 (copied c.args.from.now c.args.to.now c.loop-i.i (omega arith) (omega arith)),
+)
 
 pub returns : goal.returns
 returns c =

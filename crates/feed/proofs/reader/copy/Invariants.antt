@@ -1,6 +1,5 @@
 -- `feed::reader::copy` meets its contract. The loop's invariant: the first i bytes are copied. Assumes nothing.
-use Rattle.std.proofs.Common.{◌≡◌, ◌-◌, ◌≤◌, ◌++◌, length, take, drop, refl, ◌∙◌, arith, length-set, rules}
-use Rattle.feed.proofs.Reading.Moves.{copied, copied_all}
+use Rattle.std.proofs.Common.{◌≡◌, ◌-◌, ◌≤◌, ◌++◌, length, take, drop}
 use Rattle.feed.proofs.reader.copy.Given as goal
 
 abbrev pub invariant-loop-i : goal.invariant-loop-i

@@ -1,6 +1,6 @@
 -- `feed::reader::fill` meets its contract. The loop's invariant: filling the store on from what it holds, with the rest of the piece, ends
 -- as filling it from what was held at the start. The measure is what is left of the piece. Assumes nothing.
-use Rattle.std.proofs.Common.{◌≡◌, ℕ, ◌+◌, ◌-◌, ◌<◌, ◌≤◌, eqb, ltb, List, length, get_or, take, drop, set, sym, refl, ap, ◌∙◌, ⊎_elim, arith, length-take-le, rules, ltb-false}
+use Rattle.std.proofs.Common.{◌≡◌, ℕ, ◌+◌, ◌-◌, ◌<◌, ◌≤◌, eqb, ltb, List, length, get_or, take, drop, set, sym, refl, ap, ◌∙◌, arith, length-take-le, ltb-false}
 use borrow.Author.Tests.{eqb-false}
 use Rattle.bits.proofs.Yes.{or-none-left, or-none-right}
 use Rattle.feed.specs.Size.{store_length}

@@ -1,5 +1,5 @@
 -- `feed::reader::find` meets its contract. Assumes nothing.
-use Rattle.std.proofs.Common.{◌≡◌, ℕ, [], length, take, sym, ap, ◌∙◌, ⊎_elim, arith, length-take-le, rules}
+use Rattle.std.proofs.Common.{◌≡◌, ℕ, [], length, take, sym, ap, ◌∙◌, arith, length-take-le}
 use Rattle.feed.specs.Reader.{store}
 use Rattle.feed.proofs.Reading.Stores.{length-store}
 use Rattle.feed.proofs.Reading.Finding.{Ready, ready-none, ready-finds, filled-finds, count-within, cleared-empty, filled-ready}

@@ -1,6 +1,5 @@
 -- `feed::reader::held_count` meets its contract. Assumes nothing.
 use Rattle.std.proofs.Common.{le-ltb, lt-ltb}
-use Rattle.std.proofs.Common.{rules}
 use Rattle.feed.proofs.reader.held_count.Goals as goal
 
 pub returns-then-count-gt-MOST_HELD : goal.returns-then-count-gt-MOST_HELD

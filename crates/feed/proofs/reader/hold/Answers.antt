@@ -1,5 +1,5 @@
 -- `feed::reader::hold` meets its contract. Assumes nothing.
-use Rattle.std.proofs.Common.{◌≡◌, ◌-◌, ◌≤◌, [], length, take, drop, sym, refl, ap, ◌∙◌, arith, length-drop, length-take-le, rules}
+use Rattle.std.proofs.Common.{◌≡◌, ◌-◌, ◌≤◌, [], length, take, drop, sym, refl, ap, ◌∙◌, arith, length-drop, length-take-le}
 use Rattle.feed.specs.Size.{store_length}
 use Rattle.feed.specs.Reader.{store}
 use Rattle.feed.proofs.Reading.Stores.{length-store, store-put}

@@ -1,6 +1,5 @@
 -- `feed::reader::move_down` meets its contract. The loop's invariant: the first i bytes are those from k on. Assumes nothing.
-use Rattle.std.proofs.Common.{◌≡◌, ◌-◌, ◌≤◌, ◌++◌, length, take, drop, refl, ◌∙◌, arith, length-set, rules}
-use Rattle.feed.proofs.Reading.Moves.{moved, moved_all}
+use Rattle.std.proofs.Common.{◌≡◌, ◌-◌, ◌≤◌, ◌++◌, length, take, drop}
 use Rattle.feed.proofs.reader.move_down.Given as goal
 
 abbrev pub invariant-loop-i : goal.invariant-loop-i

@@ -1,9 +1,9 @@
 -- `feed::reader::next_mark` meets its contract. The invariant of both loops: the next mark from `at` on is the next from `from` on.
 -- Assumes nothing.
-use Rattle.std.proofs.Common.{◌≡◌, ◌-◌, true, length, take, drop, sym, ◌∙◌, arith, rules}
+use Rattle.std.proofs.Common.{◌≡◌, true, take, drop, sym, ◌∙◌, arith, rules}
 use native.Mathlib.Nat.{add-sub_cancel_left}
 use Rattle.feed.specs.Inside.Finding.{all_noise}
-use Rattle.feed.proofs.Reading.Noise.{NextMark, next_start, next-behind, next-other, next-found, next-none}
+use Rattle.feed.proofs.Reading.Noise.{next_start, next-behind, next-other, next-found, next-none}
 use Rattle.feed.proofs.reader.next_mark.Goals as goal
 
 pub loop-at-init : goal.loop-at-init

@@ -1,10 +1,7 @@
 -- `feed::reader::next_mark` meets its contract. The invariant of both loops: the next mark from `at` on is the next from `from` on.
 -- Assumes nothing.
-use Rattle.std.proofs.Common.{◌≡◌, ◌-◌, true, length, take, drop, sym, ◌∙◌, arith, rules}
-use borrow.Author.Tests.{not-false}
-use native.Mathlib.Nat.{add-sub_cancel_left}
-use Rattle.feed.specs.Inside.Finding.{all_noise}
-use Rattle.feed.proofs.Reading.Noise.{NextMark, next_start, next-behind, next-other, next-found, next-none}
+use Rattle.std.proofs.Common.{◌-◌, length}
+use Rattle.feed.proofs.Reading.Noise.{NextMark}
 use Rattle.feed.proofs.reader.next_mark.Given as goal
 
 abbrev pub invariant-loop-at : goal.invariant-loop-at

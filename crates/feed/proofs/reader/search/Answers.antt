@@ -1,16 +1,15 @@
 -- `feed::reader::search` meets its contract. The loop's invariant: the store is as it was, and what is held and still to be read gives what
 -- was to be read at the start. Assumes nothing.
-use Rattle.std.proofs.Common.{◌≡◌, ℕ, ◌+◌, ◌-◌, ◌≤◌, ◌⊎◌, List, [], length, get_or, take, drop, sym, refl, ap, ◌∙◌, inl, inr, ⊎_elim, arith, length-drop, length-take-le, rules}
+use Rattle.std.proofs.Common.{◌≡◌, ℕ, ◌+◌, ◌-◌, ◌≤◌, ◌⊎◌, List, [], length, get_or, take, drop, sym, refl, ap, ◌∙◌, inl, inr, arith, length-drop, length-take-le}
 use native.Mathlib.Nat.{add-sub_cancel_left}
 use Rattle.feed.specs.Size.{mark_byte}
 use Rattle.feed.specs.Format.{mark_of, length_of, good_kind, look}
 use Rattle.feed.specs.Reader.{store}
-use Rattle.feed.specs.Inside.Finding.{reads_on}
 use Rattle.feed.specs.declared.format.Kind.{Kind}
 use Rattle.feed.specs.declared.format.Mark.TheVariants.{Of}
 use Rattle.feed.specs.declared.format.Look.TheVariants.{Waits}
 use Rattle.feed.proofs.Reading.Noise.{noise-within}
-use Rattle.feed.proofs.Reading.Passing.{Passing, passing-start, passing-other, passing-no-mark, passing-lost}
+use Rattle.feed.proofs.Reading.Passing.{passing-start, passing-other, passing-no-mark, passing-lost}
 use Rattle.feed.proofs.Reading.Passing.{end-waits, one-waits, kind-waits, waiting-fits, waiting-found, held_found, here_found}
 use Rattle.feed.proofs.reader.search.Goals as goal
 use Rattle.feed.proofs.reader.search.Goals.{then-high-end, else-high-end, else-loop-at-test, then-loop-at-test+else-piece-at-ne-MARK+then-piece-at-lt-MARK_LENGTH, then-loop-at-test+else-piece-at-ne-MARK+else-piece-at-lt-MARK_LENGTH+in-Of+then-piece-at, After-good, At-loop-at, Else-piece-at, Left-loop-at}
@@ -112,13 +111,13 @@ loop-at-preserved c =
     let n = c.length_of-long.ensures in
     let end = c.loop-at.at + length_of c.in-Of.k in
     let w : (c.loop-at.high ≤ c.if-high-end.high) × (end ≤ c.if-high-end.high)
-        × ((c.if-high-end.high ≡ c.loop-at.high) ⊎ (c.if-high-end.high ≡ end)) =
-        elim c.if-high-end.branch [
-          | then-high-end w ↦
-              let e : c.if-high-end.high ≡ end = w.high-is ∙ ap (λ (i : ℕ). c.loop-at.at + i) n in
-              (omega (arith, w.if-high-end.true), omega arith, inr e)
-          | else-high-end w ↦ (omega arith, omega (arith, w.if-high-end.false, w.high-is), inl w.high-is)
-        ] in (
+    × ((c.if-high-end.high ≡ c.loop-at.high) ⊎ (c.if-high-end.high ≡ end)) =
+    elim c.if-high-end.branch [
+      | then-high-end w ↦
+          let e : c.if-high-end.high ≡ end = w.high-is ∙ ap (λ (i : ℕ). c.loop-at.at + i) n in
+          (omega (arith, w.if-high-end.true), omega arith, inr e)
+      | else-high-end w ↦ (omega arith, omega (arith, w.if-high-end.false, w.high-is), inl w.high-is)
+    ] in (
       c.loop-at.invariant.0,
       passing-lost _ _ _ _ c.loop-at.invariant.1 (first (goal.at.loop-at-preserved c).Else-piece-at) (kind (goal.at.loop-at-preserved c).Else-piece-at) (second (goal.at.loop-at-preserved c).Else-piece-at) (enough (goal.at.loop-at-preserved c).Else-piece-at)
           (sym (judged (goal.at.loop-at-preserved c).After-good) ∙ c.if-good.false) c.if-high-end.high w.0 w.1 w.2,

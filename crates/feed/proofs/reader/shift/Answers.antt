@@ -1,5 +1,5 @@
 -- `feed::reader::shift` meets its contract. Assumes nothing.
-use Rattle.std.proofs.Common.{arith, rules}
+use Rattle.std.proofs.Common.{arith}
 use Rattle.feed.proofs.Reading.Moves.{shifted}
 use Rattle.feed.proofs.reader.shift.Goals as goal
 

@@ -1,7 +1,6 @@
 -- `feed::report::balance_of` meets its contract. Assumes nothing.
-use Rattle.std.proofs.Common.{◌≡◌, ℕ, ◌+◌, ◌-◌, ◌≤◌, List, get_or, add-one, rules}
+use Rattle.std.proofs.Common.{◌≡◌, ℕ, ◌+◌, List, get_or, add-one, rules}
 use Rattle.bits.specs.Bit.{with_bit}
-use Rattle.cycle.specs.Size.{module_count}
 use Rattle.cycle.specs.Banks.{no_bank}
 use Rattle.cycle.specs.declared.banks.Bank.{Bank}
 use Rattle.feed.specs.Size.{oxidizer_from}

@@ -1,12 +1,7 @@
 -- `feed::report::balance_of` meets its contract. Assumes nothing.
-use Rattle.std.proofs.Common.{◌≡◌, ℕ, ◌+◌, ◌-◌, ◌≤◌, List, get_or, add-one, rules}
-use Rattle.bits.specs.Bit.{with_bit}
+use Rattle.std.proofs.Common.{◌≡◌, ◌-◌, ◌≤◌}
 use Rattle.cycle.specs.Size.{module_count}
-use Rattle.cycle.specs.Banks.{no_bank}
-use Rattle.cycle.specs.declared.banks.Bank.{Bank}
-use Rattle.feed.specs.Size.{oxidizer_from}
 use Rattle.feed.specs.Report.{balance_of}
-use Rattle.cycle.proofs.Loops.{ended}
 use Rattle.feed.proofs.report.balance_of.Given as goal
 
 abbrev pub invariant-loop-m : goal.invariant-loop-m

@@ -1,9 +1,9 @@
 -- `feed::report::put_differences` meets its contract. Assumes nothing.
-use Rattle.std.proofs.Common.{◌+◌, ◌-◌, ◌*◌, refl, arith, rules}
+use Rattle.std.proofs.Common.{◌+◌, ◌*◌, refl, arith, rules}
 use Rattle.cycle.specs.Size.{module_count}
 use Rattle.feed.specs.Size.{differences_from, difference_length}
 use Rattle.feed.specs.Report.{word_shown, words_bytes}
-use Rattle.feed.proofs.Reports.Written.{put-part, Putting, putting-none, putting-next, putting-end}
+use Rattle.feed.proofs.Reports.Written.{put-part, putting-none, putting-next, putting-end}
 use Rattle.feed.proofs.report.put_differences.Goals as goal
 
 pub loop-m-preserved : goal.loop-m-preserved
@@ -14,7 +14,7 @@ loop-m-preserved c =
     put-part (word_shown (λ b. b.difference) a.banks c.loop-m.m) c.loop-m.out y (differences_from + difference_length * c.loop-m.m)
     (differences_from + difference_length * c.loop-m.m + difference_length) refl (search rules) c.put_two.ensures in
     putting-next a.out.now differences_from difference_length module_count _ c.loop-m.out y c.loop-m.m (λ k. refl)
-    (omega (arith, c.requires)) c.loop-m.invariant c.loop-m-test.true e c.out-1.given.1
+    (omega (arith, c.requires)) c.loop-m.invariant c.loop-m-test.true e (search rules)
 
 pub returns : goal.returns
 unfolding words_bytes

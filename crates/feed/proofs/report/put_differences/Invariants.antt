@@ -1,9 +1,9 @@
 -- `feed::report::put_differences` meets its contract. Assumes nothing.
-use Rattle.std.proofs.Common.{◌+◌, ◌-◌, ◌*◌, refl, arith, rules}
+use Rattle.std.proofs.Common.{◌-◌}
 use Rattle.cycle.specs.Size.{module_count}
 use Rattle.feed.specs.Size.{differences_from, difference_length}
-use Rattle.feed.specs.Report.{word_shown, words_bytes}
-use Rattle.feed.proofs.Reports.Written.{put-part, Putting, putting-none, putting-next, putting-end}
+use Rattle.feed.specs.Report.{word_shown}
+use Rattle.feed.proofs.Reports.Written.{Putting}
 use Rattle.feed.proofs.report.put_differences.Given as goal
 
 abbrev pub invariant-loop-m : goal.invariant-loop-m

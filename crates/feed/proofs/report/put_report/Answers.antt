@@ -1,5 +1,5 @@
 -- `feed::report::put_report` meets its contract. Assumes nothing.
-use Rattle.std.proofs.Common.{ℕ, List, ap, ◌∙◌, rules}
+use Rattle.std.proofs.Common.{ℕ, List, ap, ◌∙◌}
 use Rattle.feed.specs.Report.{report_shown, into_outbox}
 use Rattle.feed.proofs.Reports.ReportWritten.{shown-same}
 use Rattle.feed.proofs.report.put_report.Goals as goal

@@ -1,10 +1,9 @@
 -- `feed::report::put_strings` meets its contract. Assumes nothing.
-use Rattle.std.proofs.Common.{◌-◌, arith, rules}
+use Rattle.std.proofs.Common.{◌-◌}
 use Rattle.cycle.specs.Size.{string_count}
 use Rattle.feed.specs.Size.{strings_from, string_part}
-use Rattle.feed.specs.Report.{word_at, string_bytes, strings_bytes}
-use Rattle.feed.proofs.Reports.Written.{Putting, putting-none, putting-next, putting-end}
-use Rattle.feed.proofs.Reports.ReportLengths.{string-length}
+use Rattle.feed.specs.Report.{word_at, string_bytes}
+use Rattle.feed.proofs.Reports.Written.{Putting}
 use Rattle.feed.proofs.report.put_strings.Given as goal
 
 abbrev pub invariant-loop-s : goal.invariant-loop-s

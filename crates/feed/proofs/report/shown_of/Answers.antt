@@ -1,11 +1,9 @@
 -- `feed::report::shown_of` meets its contract. Assumes nothing.
-use Rattle.std.proofs.Common.{ℕ, ◌-◌, List, refl, ap, ap₂, rules}
+use Rattle.std.proofs.Common.{ℕ, List, refl, ap, ap₂}
 use lib.Bits.{bit_and}
-use Rattle.cycle.specs.Size.{string_count}
 use Rattle.cycle.specs.Hall.{string_of}
-use Rattle.feed.specs.Report.{reported_fail, reported_close}
 use Rattle.feed.specs.Inside.Showing.{shown_of}
-use Rattle.feed.proofs.Records.Tables.{Filling, filling-none, filling-next, filling-end}
+use Rattle.feed.proofs.Records.Tables.{filling-none, filling-next, filling-end}
 use Rattle.feed.proofs.report.shown_of.Goals as goal
 
 pub loop-s-init : goal.loop-s-init

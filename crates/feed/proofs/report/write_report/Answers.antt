@@ -1,5 +1,5 @@
 -- `feed::report::write_report` meets its contract. Assumes nothing.
-use Rattle.std.proofs.Common.{ℕ, List, ◌++◌, drop, ap, ◌∙◌, rules}
+use Rattle.std.proofs.Common.{ℕ, List, ◌++◌, drop, ap, ◌∙◌}
 use Rattle.feed.specs.Size.{report_length}
 use Rattle.feed.specs.Report.{report_shown}
 use Rattle.feed.proofs.Reports.ReportWritten.{shown-same}

@@ -1,5 +1,5 @@
 -- `feed::report::write_shown` meets its contract. Assumes nothing.
-use Rattle.std.proofs.Common.{refl, rules}
+use Rattle.std.proofs.Common.{refl}
 use borrow.Rule.Slice.PartMut.{put_mid}
 use Rattle.feed.specs.Size.{strings_from}
 use Rattle.feed.specs.Report.{word_at}

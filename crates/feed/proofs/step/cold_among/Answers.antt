@@ -1,9 +1,7 @@
 -- `feed::step::cold_among` meets its contract. Assumes nothing.
-use Rattle.std.proofs.Common.{◌≡◌, ℕ, ◌+◌, ◌-◌, ◌*◌, ◌≤◌, ◌||◌, add-one, arith, rules}
+use Rattle.std.proofs.Common.{◌≡◌, ℕ, ◌+◌, ◌*◌, add-one, arith, rules}
 use Rattle.bits.specs.Bit.{any}
-use Rattle.cycle.specs.Leak.{cold}
 use Rattle.feed.specs.Size.{temperature_length}
-use Rattle.feed.specs.Bytes.{two}
 use Rattle.feed.specs.Inside.Calm.{cold_among}
 use Rattle.feed.proofs.Records.ColdWords.{cold-more}
 use Rattle.feed.proofs.step.cold_among.Goals as goal

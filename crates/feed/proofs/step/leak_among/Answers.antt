@@ -4,7 +4,7 @@ use lib.Bits.{bit_and, and_le_r}
 use lib.Count.{count_trailing_zeros}
 use Rattle.bits.specs.Bit.{word_bits}
 use Rattle.bits.proofs.Lowest.{lowest_set}
-use Rattle.feed.proofs.Records.ColdWords.{Walked, walk_begins, walk_turn, walk_ends}
+use Rattle.feed.proofs.Records.ColdWords.{walk_begins, walk_turn, walk_ends}
 use Rattle.feed.proofs.step.leak_among.Goals as goal
 
 some : {rest : ℕ} → (rest ≡ 0 → ⊥) → 0 < rest

@@ -1,10 +1,7 @@
 -- `feed::step::leak_among` meets its contract: the lowest jet that is left is visited and cleared, until none is left. Assumes nothing.
-use Rattle.std.proofs.Common.{◌≡◌, ℕ, ◌-◌, ◌^◌, ◌<◌, ◌∙◌, ⊎_elim, lt_trans, eq-zero-or-pos, arith, rules}
-use lib.Bits.{bit_and, and_le_r}
-use lib.Count.{count_trailing_zeros}
+use Rattle.std.proofs.Common.{◌^◌, ◌<◌}
 use Rattle.bits.specs.Bit.{word_bits}
-use Rattle.bits.proofs.Lowest.{lowest_set}
-use Rattle.feed.proofs.Records.ColdWords.{Walked, walk_begins, walk_turn, walk_ends}
+use Rattle.feed.proofs.Records.ColdWords.{Walked}
 use Rattle.feed.proofs.step.leak_among.Given as goal
 
 abbrev pub invariant-loop-rest : goal.invariant-loop-rest

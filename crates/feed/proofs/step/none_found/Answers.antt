@@ -1,5 +1,4 @@
 -- `feed::step::none_found` meets its contract. Assumes nothing.
-use Rattle.std.proofs.Common.{rules}
 use Rattle.feed.proofs.step.none_found.Goals as goal
 
 pub returns : goal.returns

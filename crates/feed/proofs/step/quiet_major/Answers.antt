@@ -1,5 +1,5 @@
 -- `feed::step::quiet_major` meets its contract. Assumes nothing.
-use Rattle.std.proofs.Common.{◌≡◌, ℕ, Bool, true, false, not, ◌&&◌, eqb, List, get_or, sym, refl, ap, ◌∙◌, ap₂, arith, rules, eq-eqb, ne_eqb}
+use Rattle.std.proofs.Common.{◌≡◌, ℕ, Bool, true, false, not, ◌&&◌, eqb, List, get_or, sym, refl, ap, ◌∙◌, ap₂, eq-eqb, ne_eqb}
 use Rattle.bits.specs.Bit.{any, every}
 use Rattle.cycle.specs.Size.{string_count}
 use Rattle.cycle.specs.Hall.{string_of}
@@ -38,7 +38,7 @@ found : (l : List ℕ) (h : Hall) (w : List ℕ) (p q r t : Bool) → w ≡ mapp
 unfolding every
 found l h w p q r t m a b c d =
     let by_word : (s : ℕ) (x : Bool) → x ≡ by_words l h w s → x ≡ none_at l h s
-        = λ s x e. e ∙ ap (λ (v : List ℕ). by_words l h v s) m in
+    = λ s x e. e ∙ ap (λ (v : List ℕ). by_words l h v s) m in
     ap₂ (λ (a b : Bool). a && b)
     (ap₂ (λ (a b : Bool). a && b) (ap₂ (λ (a b : Bool). a && b) (by_word 0 _ a) (by_word 1 _ b)) (by_word 2 _ c))
     (by_word 3 _ d)

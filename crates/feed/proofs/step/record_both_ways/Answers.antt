@@ -1,5 +1,5 @@
 -- `feed::step::record_both_ways` meets its contract. Assumes nothing.
-use Rattle.std.proofs.Common.{sym, ap, ◌∙◌, arith, rules, ne_eqb}
+use Rattle.std.proofs.Common.{sym, ap, ◌∙◌, arith, ne_eqb}
 use Rattle.cycle.specs.Size.{string_count}
 use Rattle.cycle.specs.Hall.{both_ways, record_both_ways}
 use Rattle.feed.specs.Values.{major_of, values_of}

@@ -1,5 +1,4 @@
 -- `feed::step::some_cold` meets its contract. Assumes nothing.
-use Rattle.std.proofs.Common.{rules}
 use Rattle.feed.proofs.step.some_cold.Goals as goal
 
 pub returns : goal.returns

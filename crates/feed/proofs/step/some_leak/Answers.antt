@@ -1,5 +1,5 @@
 -- `feed::step::some_leak` meets its contract. Assumes nothing.
-use Rattle.std.proofs.Common.{ℕ, sym, ap, ◌∙◌, rules}
+use Rattle.std.proofs.Common.{ℕ, sym, ap, ◌∙◌}
 use Rattle.cycle.specs.Calm.{some_leak}
 use Rattle.feed.specs.Values.{temperatures_at}
 use Rattle.feed.proofs.Records.ColdWords.{cold-leaks}

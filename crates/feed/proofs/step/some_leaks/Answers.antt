@@ -1,8 +1,7 @@
 -- `feed::step::some_leaks` meets its contract. Assumes nothing.
-use Rattle.std.proofs.Common.{◌≡◌, ◌-◌, ◌≤◌, sym, ◌∙◌, add-one, arith, rules}
+use Rattle.std.proofs.Common.{◌≡◌, sym, ◌∙◌, add-one, arith, rules}
 use Rattle.bits.specs.Bit.{any}
 use Rattle.cycle.specs.Size.{string_count}
-use Rattle.feed.specs.Inside.Calm.{leak_at}
 use Rattle.feed.proofs.Records.ColdWords.{all-cold-leaks}
 use Rattle.feed.proofs.step.some_leaks.Goals as goal
 

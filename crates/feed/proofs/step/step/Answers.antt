@@ -1,5 +1,5 @@
 -- `feed::step::step` meets its contract. Assumes nothing.
-use Rattle.std.proofs.Common.{sym, ◌∙◌, rules}
+use Rattle.std.proofs.Common.{sym, ◌∙◌}
 use Rattle.feed.specs.Step.{step_of}
 use Rattle.feed.proofs.step.step.Goals as goal
 

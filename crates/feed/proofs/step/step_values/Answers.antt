@@ -1,5 +1,5 @@
 -- `feed::step::step_values` meets its contract. Assumes nothing.
-use Rattle.std.proofs.Common.{sym, ap, ◌∙◌, arith, rules, eq-eqb, ne_eqb}
+use Rattle.std.proofs.Common.{sym, ap, ◌∙◌, arith, eq-eqb, ne_eqb}
 use Rattle.cycle.specs.Records.{minor, major}
 use Rattle.cycle.specs.Hall.{stepped}
 use Rattle.feed.specs.Values.{values_of}

@@ -1,5 +1,5 @@
 -- `feed::step::step_whole` meets its contract. Assumes nothing.
-use Rattle.std.proofs.Common.{◌≡◌, ℕ, true, eqb, List, get_or, sym, ap, ◌∙◌, ap₂, arith, rules, eq-eqb, ne_eqb}
+use Rattle.std.proofs.Common.{◌≡◌, ℕ, true, eqb, List, get_or, sym, ap, ◌∙◌, ap₂, arith, eq-eqb, ne_eqb}
 use Rattle.cycle.specs.Numbers.{judged}
 use Rattle.cycle.specs.Hall.{minor_taken, major_taken}
 use Rattle.cycle.specs.declared.answer.Answer.TheVariants.{Taken}

@@ -1,5 +1,4 @@
 -- `feed::values::major_of` meets its contract. Assumes nothing.
-use Rattle.std.proofs.Common.{rules}
 use Rattle.feed.specs.Values.{major_of}
 use Rattle.feed.proofs.values.major_of.Goals as goal
 

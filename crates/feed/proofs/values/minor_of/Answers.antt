@@ -1,5 +1,5 @@
 -- `feed::values::minor_of` meets its contract. Assumes nothing.
-use Rattle.std.proofs.Common.{get_or, ap₂, rules}
+use Rattle.std.proofs.Common.{get_or, ap₂}
 use Rattle.feed.specs.Size.{path_at}
 use Rattle.feed.specs.Values.{minor_of}
 use Rattle.feed.proofs.values.minor_of.Goals as goal

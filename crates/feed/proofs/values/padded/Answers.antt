@@ -1,5 +1,5 @@
 -- `feed::values::padded` meets its contract. Assumes nothing.
-use Rattle.std.proofs.Common.{ℕ, ◌-◌, List, [], length, refl, ap, ◌∙◌, arith, rules}
+use Rattle.std.proofs.Common.{ℕ, ◌-◌, List, [], length, refl, ap, ◌∙◌, arith}
 use borrow.Rule.Slice.PartMut.{put_mid}
 use Rattle.feed.specs.Reader.{store}
 use Rattle.feed.proofs.Reading.Stores.{store-put}

@@ -1,5 +1,5 @@
 -- `feed::values::quantities_at` meets its contract. Assumes nothing.
-use Rattle.std.proofs.Common.{ap₂, rules}
+use Rattle.std.proofs.Common.{ap₂}
 use Rattle.feed.proofs.values.quantities_at.Goals as goal
 
 pub returns : goal.returns

@@ -1,9 +1,7 @@
 -- `feed::values::quantities_of` meets its contract. Assumes nothing.
-use Rattle.std.proofs.Common.{◌+◌, ◌-◌, ◌*◌, refl, rules}
-use Rattle.cycle.specs.Size.{module_count}
-use Rattle.feed.specs.Size.{quantities_from, quantities_length}
-use Rattle.feed.specs.Values.{quantities_at, quantities_of}
-use Rattle.feed.proofs.Records.Tables.{Filling, filling-none, filling-next, filling-end}
+use Rattle.std.proofs.Common.{refl}
+use Rattle.feed.specs.Values.{quantities_of}
+use Rattle.feed.proofs.Records.Tables.{filling-none, filling-next, filling-end}
 use Rattle.feed.proofs.values.quantities_of.Goals as goal
 
 pub loop-m-preserved : goal.loop-m-preserved

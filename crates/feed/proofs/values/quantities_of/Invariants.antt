@@ -1,9 +1,9 @@
 -- `feed::values::quantities_of` meets its contract. Assumes nothing.
-use Rattle.std.proofs.Common.{◌+◌, ◌-◌, ◌*◌, refl, rules}
+use Rattle.std.proofs.Common.{◌+◌, ◌-◌, ◌*◌}
 use Rattle.cycle.specs.Size.{module_count}
 use Rattle.feed.specs.Size.{quantities_from, quantities_length}
-use Rattle.feed.specs.Values.{quantities_at, quantities_of}
-use Rattle.feed.proofs.Records.Tables.{Filling, filling-none, filling-next, filling-end}
+use Rattle.feed.specs.Values.{quantities_at}
+use Rattle.feed.proofs.Records.Tables.{Filling}
 use Rattle.feed.proofs.values.quantities_of.Given as goal
 
 abbrev pub invariant-loop-m : goal.invariant-loop-m

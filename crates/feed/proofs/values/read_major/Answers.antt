@@ -1,5 +1,5 @@
 -- `feed::values::read_major` meets its contract. Assumes nothing.
-use Rattle.std.proofs.Common.{ap, ◌∙◌, rules}
+use Rattle.std.proofs.Common.{ap, ◌∙◌}
 use Rattle.feed.specs.Reader.{store}
 use Rattle.feed.specs.Values.{major_of}
 use Rattle.feed.proofs.Records.Padded.{padded-at, major-same}

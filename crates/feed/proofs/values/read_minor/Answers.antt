@@ -1,5 +1,5 @@
 -- `feed::values::read_minor` meets its contract. Assumes nothing.
-use Rattle.std.proofs.Common.{ap, ◌∙◌, rules}
+use Rattle.std.proofs.Common.{ap, ◌∙◌}
 use Rattle.feed.specs.Reader.{store}
 use Rattle.feed.specs.Values.{minor_of}
 use Rattle.feed.proofs.Records.Padded.{padded-at, minor-same}

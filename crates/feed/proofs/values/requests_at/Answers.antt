@@ -1,5 +1,5 @@
 -- `feed::values::requests_at` meets its contract. Assumes nothing.
-use Rattle.std.proofs.Common.{get_or, ap₂, rules}
+use Rattle.std.proofs.Common.{get_or, ap₂}
 use Rattle.feed.proofs.values.requests_at.Goals as goal
 
 pub returns : goal.returns

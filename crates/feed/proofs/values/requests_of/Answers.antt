@@ -1,9 +1,7 @@
 -- `feed::values::requests_of` meets its contract. Assumes nothing.
-use Rattle.std.proofs.Common.{◌+◌, ◌-◌, ◌*◌, refl, rules}
-use Rattle.cycle.specs.Size.{string_count}
-use Rattle.feed.specs.Size.{requests_from, requests_length, drops_from}
-use Rattle.feed.specs.Values.{requests_at, requests_of}
-use Rattle.feed.proofs.Records.Tables.{Filling, filling-none, filling-next, filling-end}
+use Rattle.std.proofs.Common.{refl}
+use Rattle.feed.specs.Values.{requests_of}
+use Rattle.feed.proofs.Records.Tables.{filling-none, filling-next, filling-end}
 use Rattle.feed.proofs.values.requests_of.Goals as goal
 
 pub loop-k-preserved : goal.loop-k-preserved

@@ -1,9 +1,9 @@
 -- `feed::values::requests_of` meets its contract. Assumes nothing.
-use Rattle.std.proofs.Common.{◌+◌, ◌-◌, ◌*◌, refl, rules}
+use Rattle.std.proofs.Common.{◌+◌, ◌-◌, ◌*◌}
 use Rattle.cycle.specs.Size.{string_count}
 use Rattle.feed.specs.Size.{requests_from, requests_length, drops_from}
-use Rattle.feed.specs.Values.{requests_at, requests_of}
-use Rattle.feed.proofs.Records.Tables.{Filling, filling-none, filling-next, filling-end}
+use Rattle.feed.specs.Values.{requests_at}
+use Rattle.feed.proofs.Records.Tables.{Filling}
 use Rattle.feed.proofs.values.requests_of.Given as goal
 
 abbrev pub invariant-loop-k : goal.invariant-loop-k

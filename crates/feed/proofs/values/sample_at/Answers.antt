@@ -1,5 +1,5 @@
 -- `feed::values::sample_at` meets its contract. Assumes nothing.
-use Rattle.std.proofs.Common.{◌≡◌, ℕ, ◌+◌, ◌*◌, List, get_or, rules}
+use Rattle.std.proofs.Common.{◌≡◌, ℕ, ◌+◌, ◌*◌, List, get_or}
 use Rattle.feed.specs.Size.{word_length, valves_in}
 use Rattle.feed.specs.Bytes.{four}
 use Rattle.feed.specs.Values.{sample_at}

@@ -1,9 +1,7 @@
 -- `feed::values::samples_of` meets its contract. Assumes nothing.
-use Rattle.std.proofs.Common.{◌+◌, ◌-◌, ◌*◌, refl, rules}
-use Rattle.cycle.specs.Size.{string_count}
-use Rattle.feed.specs.Size.{samples_from, sample_length}
-use Rattle.feed.specs.Values.{sample_at, samples_of}
-use Rattle.feed.proofs.Records.Tables.{Filling, filling-none, filling-next, filling-end}
+use Rattle.std.proofs.Common.{refl}
+use Rattle.feed.specs.Values.{samples_of}
+use Rattle.feed.proofs.Records.Tables.{filling-none, filling-next, filling-end}
 use Rattle.feed.proofs.values.samples_of.Goals as goal
 
 pub loop-k-preserved : goal.loop-k-preserved

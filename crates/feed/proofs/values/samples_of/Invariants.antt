@@ -1,9 +1,9 @@
 -- `feed::values::samples_of` meets its contract. Assumes nothing.
-use Rattle.std.proofs.Common.{◌+◌, ◌-◌, ◌*◌, refl, rules}
+use Rattle.std.proofs.Common.{◌+◌, ◌-◌, ◌*◌}
 use Rattle.cycle.specs.Size.{string_count}
 use Rattle.feed.specs.Size.{samples_from, sample_length}
-use Rattle.feed.specs.Values.{sample_at, samples_of}
-use Rattle.feed.proofs.Records.Tables.{Filling, filling-none, filling-next, filling-end}
+use Rattle.feed.specs.Values.{sample_at}
+use Rattle.feed.proofs.Records.Tables.{Filling}
 use Rattle.feed.proofs.values.samples_of.Given as goal
 
 abbrev pub invariant-loop-k : goal.invariant-loop-k

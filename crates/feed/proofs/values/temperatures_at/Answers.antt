@@ -1,9 +1,7 @@
 -- `feed::values::temperatures_at` meets its contract. Assumes nothing.
-use Rattle.std.proofs.Common.{◌+◌, ◌-◌, ◌*◌, refl, ap, rules}
-use Rattle.feed.specs.Size.{temperature_count, temperature_length}
-use Rattle.feed.specs.Bytes.{two}
+use Rattle.std.proofs.Common.{refl, ap}
 use Rattle.feed.specs.Values.{words_at}
-use Rattle.feed.proofs.Records.Tables.{Filling, filling-none, filling-next, filling-end}
+use Rattle.feed.proofs.Records.Tables.{filling-none, filling-next, filling-end}
 use Rattle.feed.proofs.values.temperatures_at.Goals as goal
 
 pub loop-k-preserved : goal.loop-k-preserved

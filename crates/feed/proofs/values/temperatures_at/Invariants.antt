@@ -1,9 +1,8 @@
 -- `feed::values::temperatures_at` meets its contract. Assumes nothing.
-use Rattle.std.proofs.Common.{◌+◌, ◌-◌, ◌*◌, refl, ap, rules}
+use Rattle.std.proofs.Common.{◌+◌, ◌-◌, ◌*◌}
 use Rattle.feed.specs.Size.{temperature_count, temperature_length}
 use Rattle.feed.specs.Bytes.{two}
-use Rattle.feed.specs.Values.{words_at}
-use Rattle.feed.proofs.Records.Tables.{Filling, filling-none, filling-next, filling-end}
+use Rattle.feed.proofs.Records.Tables.{Filling}
 use Rattle.feed.proofs.values.temperatures_at.Given as goal
 
 abbrev pub invariant-loop-k : goal.invariant-loop-k

@@ -1,9 +1,7 @@
 -- `feed::values::temperatures_of` meets its contract. Assumes nothing.
-use Rattle.std.proofs.Common.{◌+◌, ◌-◌, ◌*◌, refl, rules}
-use Rattle.cycle.specs.Size.{string_count}
-use Rattle.feed.specs.Size.{temperatures_from, temperatures_length}
-use Rattle.feed.specs.Values.{temperatures_at, temperatures_of}
-use Rattle.feed.proofs.Records.Tables.{Filling, filling-none, filling-next, filling-end}
+use Rattle.std.proofs.Common.{refl}
+use Rattle.feed.specs.Values.{temperatures_of}
+use Rattle.feed.proofs.Records.Tables.{filling-none, filling-next, filling-end}
 use Rattle.feed.proofs.values.temperatures_of.Goals as goal
 
 pub loop-k-preserved : goal.loop-k-preserved

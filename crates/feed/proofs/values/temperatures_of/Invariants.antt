@@ -1,9 +1,9 @@
 -- `feed::values::temperatures_of` meets its contract. Assumes nothing.
-use Rattle.std.proofs.Common.{◌+◌, ◌-◌, ◌*◌, refl, rules}
+use Rattle.std.proofs.Common.{◌+◌, ◌-◌, ◌*◌}
 use Rattle.cycle.specs.Size.{string_count}
 use Rattle.feed.specs.Size.{temperatures_from, temperatures_length}
-use Rattle.feed.specs.Values.{temperatures_at, temperatures_of}
-use Rattle.feed.proofs.Records.Tables.{Filling, filling-none, filling-next, filling-end}
+use Rattle.feed.specs.Values.{temperatures_at}
+use Rattle.feed.proofs.Records.Tables.{Filling}
 use Rattle.feed.proofs.values.temperatures_of.Given as goal
 
 abbrev pub invariant-loop-k : goal.invariant-loop-k

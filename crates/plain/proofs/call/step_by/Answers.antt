@@ -1,5 +1,4 @@
 -- `plain::call::step_by` meets its contract. Assumes nothing.
-use borrow.Author.Rules.{rules}
 use mathlib.Core.Path.{sym, ap, ◌∙◌}
 use Rattle.cycle.specs.Records.{Record, minor, major}
 use Rattle.feed.proofs.Records.Told.{values-major, values_other}

@@ -1,5 +1,4 @@
 -- `plain::hall::start` meets its contract. Assumes nothing.
-use borrow.Author.Rules.{rules}
 use Rattle.plain.proofs.Halls.{refused-start, taken_start}
 use Rattle.plain.proofs.hall.start.Goals as goal
 

@@ -8,7 +8,6 @@ use lib.Dec.{leb}
 use borrow.Author.Tests.{le-leb, lt-leb}
 use Rattle.cycle.specs.Leak.{cold}
 use Rattle.cycle.proofs.Leaks.{cold-exactly, warm-exactly}
-use Rattle.std.proofs.Common.{rules}
 use Rattle.plain.proofs.jet.cold.Goals as goal
 
 -- above 63: the second test decides

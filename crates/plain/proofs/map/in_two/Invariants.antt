@@ -1,11 +1,8 @@
 -- `plain::map::in_two` meets its contract. Assumes nothing.
-use borrow.Author.Rules.{rules}
 use mathlib.Core.Path.{◌≡◌}
 use Prim.Native.Nat.{◌≤◌, ◌-◌}
 use Rattle.cycle.specs.Size.{manifold_count}
-use Rattle.cycle.proofs.Loops.{ended}
 use Rattle.plain.specs.Map.{in_one, in_two}
-use Rattle.plain.proofs.Loops.{one-turned, two-turned}
 use Rattle.plain.proofs.map.in_two.Given as goal
 
 abbrev pub invariant-loop-i : goal.invariant-loop-i

@@ -1,12 +1,8 @@
 -- `plain::map::place_of` meets its contract. Assumes nothing.
-use borrow.Author.Rules.{rules}
-use mathlib.Core.Path.{◌≡◌, ◌∙◌}
-use mathlib.Core.Logic.{⊎_elim}
+use mathlib.Core.Path.{◌≡◌}
 use Prim.Native.Nat.{◌≤◌, ◌-◌}
 use Rattle.cycle.specs.Size.{manifold_count}
-use Rattle.cycle.proofs.Loops.{ended}
 use Rattle.plain.specs.Map.{place_in}
-use Rattle.plain.proofs.Loops.{place_found, place_kept}
 use Rattle.plain.proofs.map.place_of.Given as goal
 
 abbrev pub invariant-loop-i : goal.invariant-loop-i

@@ -1,9 +1,7 @@
 -- `plain::map::refused` meets its contract. Assumes nothing.
 use borrow.Author.Rules.{rules}
-use mathlib.Core.Path.{◌≡◌}
-use Prim.Native.Nat.{◌≤◌, ◌-◌}
 use Rattle.bits.specs.Bit.{any}
-use Rattle.cycle.specs.Size.{string_count, jet_count}
+use Rattle.cycle.specs.Size.{jet_count}
 use Rattle.cycle.specs.Map.{masks_of}
 use Rattle.cycle.proofs.Loops.{ended}
 use Rattle.plain.specs.Map.{string_refused, refused}

@@ -1,9 +1,7 @@
 -- `plain::map::string_refused` meets its contract. Assumes nothing.
 use borrow.Author.Rules.{rules}
-use mathlib.Core.Path.{◌≡◌}
-use Prim.Native.Nat.{◌≤◌, ◌-◌}
 use Rattle.bits.specs.Bit.{any}
-use Rattle.cycle.specs.Size.{jet_count, manifold_count}
+use Rattle.cycle.specs.Size.{manifold_count}
 use Rattle.cycle.proofs.Loops.{ended}
 use Rattle.plain.specs.Map.{in_two, string_refused}
 use Rattle.plain.proofs.Loops.{any-turned}

@@ -1,10 +1,6 @@
 -- `plain::said::drops_said` meets its contract. Assumes nothing.
-use borrow.Author.Rules.{rules}
 use mathlib.Core.Path.{refl}
-use Prim.Native.Nat.{◌-◌}
-use Rattle.bits.specs.Bit.{bit}
-use Rattle.cycle.specs.Size.{manifold_count}
-use Rattle.feed.proofs.Records.Tables.{Filling, filling-none, filling-next, filling-end}
+use Rattle.feed.proofs.Records.Tables.{filling-none, filling-next, filling-end}
 use Rattle.plain.specs.Said.{drops_said}
 use Rattle.plain.proofs.said.drops_said.Goals as goal
 

@@ -1,5 +1,4 @@
 -- `plain::said::jet_said` meets its contract. Assumes nothing.
-use borrow.Author.Rules.{rules}
 use Rattle.plain.proofs.said.jet_said.Goals as goal
 
 pub returns : goal.returns

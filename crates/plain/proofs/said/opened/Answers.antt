@@ -1,13 +1,9 @@
 -- `plain::said::opened` meets its contract. Assumes nothing.
-use borrow.Author.Rules.{rules}
 use mathlib.Core.Path.{refl, ap, ◌∙◌}
 use mathlib.Core.Bool.{Bool}
-use Prim.Native.Nat.{◌-◌}
 use lib.ListN.{get_or}
-use Rattle.bits.specs.Bit.{bit}
-use Rattle.cycle.specs.Size.{string_count}
 use Rattle.cycle.specs.Hall.{sample_of, no_temperatures, no_requests}
-use Rattle.feed.proofs.Records.Tables.{Filling, filling-none, filling-next, filling-end}
+use Rattle.feed.proofs.Records.Tables.{filling-none, filling-next, filling-end}
 use Rattle.plain.specs.Said.{past_string, string_said, opened}
 use Rattle.plain.proofs.said.opened.Goals as goal
 

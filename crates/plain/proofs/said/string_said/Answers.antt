@@ -1,13 +1,9 @@
 -- `plain::said::string_said` meets its contract. Assumes nothing.
-use borrow.Author.Rules.{rules}
 use mathlib.Core.Path.{refl, ap, ap₂, ◌∙◌}
 use mathlib.Core.Bool.{Bool}
 use mathlib.Core.List.{List}
-use Prim.Native.Nat.{ℕ, ◌-◌}
-use lib.ListN.{get_or}
-use Rattle.cycle.specs.Size.{jet_count}
-use Rattle.feed.proofs.Records.Tables.{Filling, filling-none, filling-next, filling-end}
-use Rattle.plain.specs.Jet.{place_of, past_jet}
+use Prim.Native.Nat.{ℕ}
+use Rattle.feed.proofs.Records.Tables.{filling-none, filling-next, filling-end}
 use Rattle.plain.specs.Said.{jet_said, string_said}
 use Rattle.plain.specs.declared.said.JetSaid.{JetSaid}
 use Rattle.plain.proofs.said.string_said.Goals as goal

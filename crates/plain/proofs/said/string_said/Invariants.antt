@@ -1,15 +1,10 @@
 -- `plain::said::string_said` meets its contract. Assumes nothing.
-use borrow.Author.Rules.{rules}
-use mathlib.Core.Path.{refl, ap, ap₂, ◌∙◌}
-use mathlib.Core.Bool.{Bool}
-use mathlib.Core.List.{List}
-use Prim.Native.Nat.{ℕ, ◌-◌}
+use Prim.Native.Nat.{◌-◌}
 use lib.ListN.{get_or}
 use Rattle.cycle.specs.Size.{jet_count}
-use Rattle.feed.proofs.Records.Tables.{Filling, filling-none, filling-next, filling-end}
+use Rattle.feed.proofs.Records.Tables.{Filling}
 use Rattle.plain.specs.Jet.{place_of, past_jet}
-use Rattle.plain.specs.Said.{jet_said, string_said}
-use Rattle.plain.specs.declared.said.JetSaid.{JetSaid}
+use Rattle.plain.specs.Said.{jet_said}
 use Rattle.plain.proofs.said.string_said.Given as goal
 
 abbrev pub invariant-loop-j : goal.invariant-loop-j

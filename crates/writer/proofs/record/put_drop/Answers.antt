@@ -1,6 +1,5 @@
 -- `writer::record::put_drop` meets its contract. Assumes nothing.
 use mathlib.Core.List.{[]}
-use borrow.Author.Rules.{rules}
 use mathlib.Core.Path.{refl}
 use Rattle.feed.proofs.Reports.Written.{set_last}
 use Rattle.writer.specs.RecordBytes.{drop_bytes}

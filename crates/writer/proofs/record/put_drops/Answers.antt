@@ -27,7 +27,7 @@ pub loop-s-preserved : goal.loop-s-preserved
 loop-s-preserved c =
     let a = c.args in
     laid a.requests a.b.now c.loop-s.b c.put_drop.new.b c.loop-s.s c.loop-s.invariant c.loop-s-test.true
-    c.put_drop.ensures c.b-1.given.1
+    c.put_drop.ensures (search rules)
 
 pub returns : goal.returns
 unfolding drops_bytes

@@ -1,9 +1,8 @@
 -- `writer::record::put_quantities` meets its contract. Assumes nothing.
-use Prim.Native.Nat.{◌-◌}
 use borrow.Author.Rules.{rules}
 use Rattle.cycle.specs.Size.{module_count}
 use Rattle.feed.specs.Size.{quantities_length}
-use Rattle.feed.proofs.Reports.Laying.{Laying, laying-none, laying-next, laying-end}
+use Rattle.feed.proofs.Reports.Laying.{laying-none, laying-next, laying-end}
 use Rattle.writer.specs.RecordBytes.{quantities_shown, quantities_bytes}
 use Rattle.writer.proofs.Lengths.{quantity-length}
 use Rattle.writer.proofs.record.put_quantities.Goals as goal
@@ -13,7 +12,7 @@ loop-m-preserved c =
     let a = c.args in
     let y = c.put_quantity.new.b in
     laying-next quantities_length module_count (quantities_shown a.quantities) a.b.now c.loop-m.b y c.loop-m.m (λ j. quantity-length _)
-    c.loop-m.invariant c.loop-m-test.true c.put_quantity.ensures c.b-1.given.1
+    c.loop-m.invariant c.loop-m-test.true c.put_quantity.ensures (search rules)
 
 pub returns : goal.returns
 unfolding quantities_bytes

@@ -1,11 +1,9 @@
 -- `writer::record::put_quantities` meets its contract. Assumes nothing.
 use Prim.Native.Nat.{◌-◌}
-use borrow.Author.Rules.{rules}
 use Rattle.cycle.specs.Size.{module_count}
 use Rattle.feed.specs.Size.{quantities_length}
-use Rattle.feed.proofs.Reports.Laying.{Laying, laying-none, laying-next, laying-end}
-use Rattle.writer.specs.RecordBytes.{quantities_shown, quantities_bytes}
-use Rattle.writer.proofs.Lengths.{quantity-length}
+use Rattle.feed.proofs.Reports.Laying.{Laying}
+use Rattle.writer.specs.RecordBytes.{quantities_shown}
 use Rattle.writer.proofs.record.put_quantities.Given as goal
 
 abbrev pub invariant-loop-m : goal.invariant-loop-m

@@ -41,4 +41,4 @@ shape_of-b c =
     a.x.valves
     ∙ c.b-3-1.given.1
     ∙ c.b-2-1.given.1
-    ∙ c.b-1.given.1
+    ∙ (search rules)

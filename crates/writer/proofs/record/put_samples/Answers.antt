@@ -1,9 +1,8 @@
 -- `writer::record::put_samples` meets its contract. Assumes nothing.
-use Prim.Native.Nat.{◌-◌}
 use borrow.Author.Rules.{rules}
 use Rattle.cycle.specs.Size.{string_count}
 use Rattle.feed.specs.Size.{sample_length}
-use Rattle.feed.proofs.Reports.Laying.{Laying, laying-none, laying-next, laying-end}
+use Rattle.feed.proofs.Reports.Laying.{laying-none, laying-next, laying-end}
 use Rattle.writer.specs.RecordBytes.{sample_shown, samples_bytes}
 use Rattle.writer.proofs.Lengths.{sample-length}
 use Rattle.writer.proofs.record.put_samples.Goals as goal
@@ -13,7 +12,7 @@ loop-s-preserved c =
     let a = c.args in
     let y = c.put_sample.new.b in
     laying-next sample_length string_count (sample_shown a.samples) a.b.now c.loop-s.b y c.loop-s.s (λ j. sample-length _)
-    c.loop-s.invariant c.loop-s-test.true c.put_sample.ensures c.b-1.given.1
+    c.loop-s.invariant c.loop-s-test.true c.put_sample.ensures (search rules)
 
 pub returns : goal.returns
 unfolding samples_bytes

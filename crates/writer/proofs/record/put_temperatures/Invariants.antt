@@ -1,11 +1,9 @@
 -- `writer::record::put_temperatures` meets its contract. Assumes nothing.
 use Prim.Native.Nat.{◌-◌}
-use borrow.Author.Rules.{rules}
 use Rattle.cycle.specs.Size.{string_count}
 use Rattle.feed.specs.Size.{temperatures_length}
-use Rattle.feed.proofs.Reports.Laying.{Laying, laying-none, laying-next, laying-end}
-use Rattle.writer.specs.RecordBytes.{temperatures_shown, temperatures_bytes}
-use Rattle.writer.proofs.Lengths.{words-length}
+use Rattle.feed.proofs.Reports.Laying.{Laying}
+use Rattle.writer.specs.RecordBytes.{temperatures_shown}
 use Rattle.writer.proofs.record.put_temperatures.Given as goal
 
 abbrev pub invariant-loop-s : goal.invariant-loop-s

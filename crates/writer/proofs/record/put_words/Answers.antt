@@ -1,10 +1,10 @@
 -- `writer::record::put_words` meets its contract. Assumes nothing.
 use mathlib.Core.Path.{refl}
-use Prim.Native.Nat.{◌+◌, ◌*◌, ◌-◌}
+use Prim.Native.Nat.{◌+◌, ◌*◌}
 use borrow.Author.Rules.{rules}
 use Rattle.feed.specs.Size.{temperature_count, temperature_length}
 use Rattle.feed.proofs.Reports.Written.{put-part}
-use Rattle.feed.proofs.Reports.Laying.{Laying, laying-none, laying-next, laying-end}
+use Rattle.feed.proofs.Reports.Laying.{laying-none, laying-next, laying-end}
 use Rattle.writer.specs.RecordBytes.{word_shown, words_bytes}
 use Rattle.writer.proofs.record.put_words.Goals as goal
 
@@ -17,7 +17,7 @@ loop-k-preserved c =
     put-part (word_shown a.t k) c.loop-k.b y (temperature_length * k) (temperature_length * k + temperature_length) refl (search rules)
     c.put_two.ensures in
     laying-next temperature_length temperature_count (word_shown a.t) a.b.now c.loop-k.b y k (λ j. refl) c.loop-k.invariant
-    c.loop-k-test.true e c.b-1.given.1
+    c.loop-k-test.true e (search rules)
 
 pub returns : goal.returns
 unfolding words_bytes

@@ -1,11 +1,8 @@
 -- `writer::record::put_words` meets its contract. Assumes nothing.
-use mathlib.Core.Path.{refl}
-use Prim.Native.Nat.{◌+◌, ◌*◌, ◌-◌}
-use borrow.Author.Rules.{rules}
+use Prim.Native.Nat.{◌-◌}
 use Rattle.feed.specs.Size.{temperature_count, temperature_length}
-use Rattle.feed.proofs.Reports.Written.{put-part}
-use Rattle.feed.proofs.Reports.Laying.{Laying, laying-none, laying-next, laying-end}
-use Rattle.writer.specs.RecordBytes.{word_shown, words_bytes}
+use Rattle.feed.proofs.Reports.Laying.{Laying}
+use Rattle.writer.specs.RecordBytes.{word_shown}
 use Rattle.writer.proofs.record.put_words.Given as goal
 
 abbrev pub invariant-loop-k : goal.invariant-loop-k

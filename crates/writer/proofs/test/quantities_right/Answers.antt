@@ -1,11 +1,9 @@
 -- `writer::test::quantities_right` meets its contract. Assumes nothing.
-use mathlib.Core.Path.{◌≡◌, ap, ◌∙◌}
+use mathlib.Core.Path.{ap, ◌∙◌}
 use mathlib.Core.Bool.{◌&&◌}
-use Prim.Native.Nat.{◌≤◌, ◌-◌}
 use borrow.Author.Rules.{rules}
 use Rattle.bits.specs.Bit.{every}
 use Rattle.bits.proofs.Every.{every_more}
-use Rattle.cycle.specs.Size.{module_count}
 use Rattle.cycle.proofs.Loops.{ended}
 use Rattle.writer.specs.Write.{module_right, quantities_right}
 use Rattle.writer.proofs.test.quantities_right.Goals as goal

@@ -1,7 +1,6 @@
 -- `writer::test::reserved_zero` meets its contract. Assumes nothing.
 use mathlib.Core.Path.{refl}
 use Rattle.writer.specs.Write.{reserved_zero}
-use Rattle.std.proofs.Common.{rules}
 use Rattle.writer.proofs.test.reserved_zero.Goals as goal
 
 pub returns : goal.returns

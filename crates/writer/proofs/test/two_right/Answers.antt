@@ -1,7 +1,6 @@
 -- `writer::test::two_right` meets its contract. Assumes nothing.
 use mathlib.Core.Path.{refl}
 use Rattle.writer.specs.Write.{two_right}
-use Rattle.std.proofs.Common.{rules}
 use Rattle.writer.proofs.test.two_right.Goals as goal
 
 pub returns : goal.returns

@@ -1,7 +1,6 @@
 -- `writer::write::checked` meets its contract. Assumes nothing.
 use mathlib.Core.Path.{refl}
 use Rattle.writer.specs.Write.{checked}
-use Rattle.std.proofs.Common.{rules}
 use Rattle.writer.proofs.write.checked.Goals as goal
 
 pub returns-then-not-zero : goal.returns-then-not-zero

@@ -1,6 +1,5 @@
 -- `writes::request::header_in` meets its contract. Assumes nothing.
 use mathlib.Core.Path.{refl}
-use borrow.Author.Rules.{rules}
 use Rattle.writes.proofs.request.header_in.Goals as goal
 
 pub returns : goal.returns

@@ -1,10 +1,9 @@
 -- `feed::call::Monitor::call` meets its contract. Assumes nothing.
-use Rattle.std.proofs.Common.{◌≡◌, ℕ, ◌-◌, ◌≤◌, List, length, sym, ◌∙◌, arith, rules, lt-ltb}
-use borrow.Rule.Slice.PartMut.{put_mid}
+use Rattle.std.proofs.Common.{◌≡◌, ℕ, ◌≤◌, length, sym, ◌∙◌, arith, rules, lt-ltb}
 use Rattle.feed.specs.Size.{store_length, most_held}
 use Rattle.feed.specs.Reader.{held_count}
 use Rattle.feed.specs.Call.{call}
-use Rattle.feed.proofs.Calls.Calling.{InOrder, put-in-order, held-short, call-called, called-in-order, turned-outcome}
+use Rattle.feed.proofs.Calls.Calling.{put-in-order, held-short, call-called, called-in-order, turned-outcome}
 use Rattle.feed.proofs.call.Monitor.call.Goals as goal
 
 pub returns-then-out-lt-OUTBOX_NEEDED : goal.returns-then-out-lt-OUTBOX_NEEDED

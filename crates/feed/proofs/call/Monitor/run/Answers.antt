@@ -1,5 +1,5 @@
 -- `feed::call::Monitor::run` meets its contract. Assumes nothing.
-use Rattle.std.proofs.Common.{◌≡◌, ℕ, ◌-◌, ◌<◌, ◌≤◌, true, false, List, length, take, sym, refl, ap, ◌∙◌, ⊎_elim, arith, length-drop, length-take-le, rules}
+use Rattle.std.proofs.Common.{◌≡◌, ℕ, ◌-◌, ◌<◌, ◌≤◌, true, false, List, length, take, sym, refl, ap, ◌∙◌, arith, length-drop, length-take-le, rules}
 use borrow.Rule.Slice.PartMut.{put_mid, same_len_mid}
 use Rattle.bits.proofs.Yes.{not-both, not-true, not-no}
 use Rattle.feed.specs.Size.{store_length, most_held, report_length, outbox_needed}
@@ -13,8 +13,8 @@ use Rattle.feed.proofs.Reading.Found.{rest-whole}
 use Rattle.feed.proofs.Calls.Calling.{InOrder, put-in-order, held-short}
 use Rattle.feed.proofs.Calls.Running.{monitor_at, Loops, loop-starts, out-long, loop-ends, loop-leaves, loop-goes, no_room, put_rest}
 use Rattle.feed.proofs.Calls.Running.{runs-start}
-use Rattle.feed.proofs.Calls.CalmRuns.{Calmed, part-kept, calm-room, major-there, major-goes, calm-left}
-use Rattle.feed.proofs.Calls.Stretches.{Stretching, ahead-below, ahead-minor, stretch-starts, stretch-stops, stretch-full, stretch-goes}
+use Rattle.feed.proofs.Calls.CalmRuns.{part-kept, calm-room, major-there, major-goes, calm-left}
+use Rattle.feed.proofs.Calls.Stretches.{ahead-below, ahead-minor, stretch-starts, stretch-stops, stretch-full, stretch-goes}
 use Rattle.feed.proofs.call.Monitor.run.Goals as goal
 use Rattle.feed.proofs.call.Monitor.run.Goals.{After-clear, Joined-calm, then-calm+else-loop-left-test+else-x, else-calm}
 

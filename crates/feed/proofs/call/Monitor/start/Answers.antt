@@ -1,5 +1,5 @@
 -- `feed::call::Monitor::start` meets its contract. Assumes nothing.
-use Rattle.std.proofs.Common.{[], ap, rules}
+use Rattle.std.proofs.Common.{[], ap}
 use Rattle.feed.specs.Call.{holding, started_over}
 use Rattle.feed.specs.declared.call.Outcome.{Outcome}
 use Rattle.cycle.specs.declared.hall.Stepped.{Stepped}

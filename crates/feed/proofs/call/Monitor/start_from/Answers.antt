@@ -1,5 +1,5 @@
 -- `feed::call::Monitor::start_from` meets its contract. Assumes nothing.
-use Rattle.std.proofs.Common.{[], replicate, ap, ◌∙◌, rules, eq-eqb, ne_eqb}
+use Rattle.std.proofs.Common.{[], replicate, ap, ◌∙◌, eq-eqb, ne_eqb}
 use Rattle.feed.specs.Call.{holding, started_over}
 use Rattle.feed.specs.declared.call.Outcome.{Outcome}
 use Rattle.cycle.specs.Size.{string_count}

@@ -26,9 +26,9 @@ fits c = let a = c.args in long-fits a.self a.piece.now a.out.now c.next-x.resul
 pub returns-then-out-lt-OUTBOX_NEEDED : goal.returns-then-out-lt-OUTBOX_NEEDED
 unfolding call
 returns-then-out-lt-OUTBOX_NEEDED c = record {
-      value = rw (lt-ltb _ _ c.if-out-lt-OUTBOX_NEEDED.true);
-      out_after = rw (lt-ltb _ _ c.if-out-lt-OUTBOX_NEEDED.true);
-    }
+  value = rw (lt-ltb _ _ c.if-out-lt-OUTBOX_NEEDED.true);
+  out_after = rw (lt-ltb _ _ c.if-out-lt-OUTBOX_NEEDED.true);
+}
 
 pub returns-then-long-eq0 : goal.returns-then-long-eq0
 returns-then-long-eq0 c =

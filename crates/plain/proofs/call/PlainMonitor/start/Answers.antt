@@ -1,5 +1,4 @@
 -- `plain::call::PlainMonitor::start` meets its contract. Assumes nothing.
-use borrow.Author.Rules.{rules}
 use Rattle.plain.specs.Call.{started_over}
 use Rattle.plain.proofs.call.PlainMonitor.start.Goals as goal
 

@@ -1,10 +1,8 @@
 -- `plain::hall::Plain::cycled` meets its contract. Assumes nothing.
 use borrow.Author.Rules.{rules}
-use mathlib.Core.Path.{◌≡◌, ap}
+use mathlib.Core.Path.{ap}
 use mathlib.Core.List.{List}
-use Prim.Native.Nat.{◌≤◌, ◌-◌}
 use lib.ListN.{get_or}
-use Rattle.cycle.specs.Size.{string_count}
 use Rattle.cycle.specs.Each.{each}
 use Rattle.cycle.proofs.Loops.{turned, ended}
 use Rattle.plain.specs.Said.{silent, past_string}

@@ -1,16 +1,9 @@
 -- `plain::hall::Plain::fresh` meets its contract. Assumes nothing.
-use borrow.Author.Rules.{rules}
-use mathlib.Core.Path.{refl, ap₂}
-use mathlib.Core.List.{List}
 use Prim.Native.Nat.{◌-◌}
-use lib.ListN.{replicate}
-use Rattle.cycle.specs.Size.{string_count, module_count}
+use Rattle.cycle.specs.Size.{string_count}
 use Rattle.cycle.specs.Map.{masks_of}
-use Rattle.cycle.specs.declared.banks.Bank.{Bank}
-use Rattle.feed.proofs.Records.Tables.{Filling, filling-none, filling-next, filling-end}
+use Rattle.feed.proofs.Records.Tables.{Filling}
 use Rattle.plain.specs.Map.{fresh_string}
-use Rattle.plain.specs.Hall.{fresh_plain}
-use Rattle.plain.specs.declared.string.PlainString.{PlainString}
 use Rattle.plain.proofs.hall.Plain.fresh.Given as goal
 
 abbrev pub invariant-loop-s : goal.invariant-loop-s

@@ -1,24 +1,19 @@
 -- `plain::hall::Plain::shown` meets its contract. Assumes nothing.
-use borrow.Author.Rules.{rules}
 use mathlib.Core.Path.{refl, ap₂}
 use mathlib.Core.List.{List}
-use Prim.Native.Nat.{ℕ, ◌-◌}
-use lib.ListN.{get_or}
-use Rattle.cycle.specs.Size.{string_count, jet_count, manifold_count}
-use Rattle.feed.proofs.Records.Tables.{Filling, filling-none, filling-next, filling-end}
-use Rattle.plain.specs.Said.{past_string}
-use Rattle.plain.specs.Shown.{fail_word, close_word, shown_of}
+use Prim.Native.Nat.{ℕ}
+use Rattle.feed.proofs.Records.Tables.{filling-none, filling-next, filling-end}
+use Rattle.plain.specs.Shown.{shown_of}
 use Rattle.plain.proofs.hall.Plain.shown.Goals as goal
 
 pub loop-s-init : goal.loop-s-init
 loop-s-init c = (filling-none _ _ _, filling-none _ _ _)
 
 pub loop-s-preserved : goal.loop-s-preserved
-loop-s-preserved c =
-    (
-      filling-next _ _ _ _ _ _ refl c.loop-s.invariant.0 c.loop-s-test.true c.fail_word.ensures,
-      filling-next _ _ _ _ _ _ refl c.loop-s.invariant.1 c.loop-s-test.true c.close_word.ensures,
-    )
+loop-s-preserved c = (
+  filling-next _ _ _ _ _ _ refl c.loop-s.invariant.0 c.loop-s-test.true c.fail_word.ensures,
+  filling-next _ _ _ _ _ _ refl c.loop-s.invariant.1 c.loop-s-test.true c.close_word.ensures,
+)
 
 pub returns : goal.returns
 unfolding shown_of

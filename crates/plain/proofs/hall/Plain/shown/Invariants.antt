@@ -1,13 +1,10 @@
 -- `plain::hall::Plain::shown` meets its contract. Assumes nothing.
-use borrow.Author.Rules.{rules}
-use mathlib.Core.Path.{refl, ap₂}
-use mathlib.Core.List.{List}
-use Prim.Native.Nat.{ℕ, ◌-◌}
+use Prim.Native.Nat.{◌-◌}
 use lib.ListN.{get_or}
 use Rattle.cycle.specs.Size.{string_count, jet_count, manifold_count}
-use Rattle.feed.proofs.Records.Tables.{Filling, filling-none, filling-next, filling-end}
+use Rattle.feed.proofs.Records.Tables.{Filling}
 use Rattle.plain.specs.Said.{past_string}
-use Rattle.plain.specs.Shown.{fail_word, close_word, shown_of}
+use Rattle.plain.specs.Shown.{fail_word, close_word}
 use Rattle.plain.proofs.hall.Plain.shown.Given as goal
 
 abbrev pub invariant-loop-s : goal.invariant-loop-s

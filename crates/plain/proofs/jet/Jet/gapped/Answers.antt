@@ -1,5 +1,4 @@
 -- `plain::jet::Jet::gapped` meets its contract. Assumes nothing.
-use borrow.Author.Rules.{rules}
 use mathlib.Core.Path.{ap, ◌∙◌}
 use Rattle.cycle.specs.Jets.{on_cleared, gapped}
 use Rattle.plain.specs.Jet.{by}

@@ -1,5 +1,4 @@
 -- `plain::jet::Jet::if_mapped` meets its contract. Assumes nothing.
-use borrow.Author.Rules.{rules}
 use Rattle.plain.proofs.jet.Jet.if_mapped.Goals as goal
 
 pub returns-then-is_mapped : goal.returns-then-is_mapped

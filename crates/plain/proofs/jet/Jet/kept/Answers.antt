@@ -1,7 +1,6 @@
 -- `plain::jet::Jet::kept` meets its contract. Assumes nothing.
 use mathlib.Core.Path.{refl}
 use Rattle.cycle.specs.Jets.{kept}
-use Rattle.std.proofs.Common.{rules}
 use Rattle.plain.proofs.jet.Jet.kept.Goals as goal
 
 pub returns : goal.returns

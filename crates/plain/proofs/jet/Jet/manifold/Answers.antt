@@ -1,5 +1,4 @@
 -- `plain::jet::Jet::manifold` meets its contract. Assumes nothing.
-use borrow.Author.Rules.{rules}
 use mathlib.Core.Path.{ap, ◌∙◌}
 use Rattle.cycle.specs.Jets.{remembered}
 use Rattle.plain.specs.Jet.{by}

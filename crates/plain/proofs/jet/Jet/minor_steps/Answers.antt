@@ -1,5 +1,4 @@
 -- `plain::jet::Jet::minor_steps` meets its contract. Assumes nothing.
-use borrow.Author.Rules.{rules}
 use Rattle.plain.proofs.Steps.{minor-chain}
 use Rattle.plain.proofs.jet.Jet.minor_steps.Goals as goal
 

@@ -1,5 +1,4 @@
 -- `plain::jet::Jet::off_cleared` meets its contract. Assumes nothing.
-use borrow.Author.Rules.{rules}
 use Rattle.plain.proofs.jet.Jet.off_cleared.Goals as goal
 
 pub returns-then-gap : goal.returns-then-gap

@@ -1,5 +1,4 @@
 -- `plain::jet::Jet::on_cleared` meets its contract. Assumes nothing.
-use borrow.Author.Rules.{rules}
 use Rattle.plain.proofs.jet.Jet.on_cleared.Goals as goal
 
 pub returns-then-missed : goal.returns-then-missed

@@ -1,7 +1,6 @@
 -- `plain::jet::Jet::on_failure` meets its contract. Assumes nothing.
 use mathlib.Core.Path.{refl}
 use Rattle.cycle.specs.Jets.{on_failure}
-use Rattle.std.proofs.Common.{rules}
 use Rattle.plain.proofs.jet.Jet.on_failure.Goals as goal
 
 pub returns : goal.returns

@@ -1,5 +1,4 @@
 -- `plain::jet::Jet::recovered` meets its contract. Assumes nothing.
-use borrow.Author.Rules.{rules}
 use Rattle.cycle.specs.Jets.{recovered}
 use Rattle.plain.proofs.jet.Jet.recovered.Goals as goal
 

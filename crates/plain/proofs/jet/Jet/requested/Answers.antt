@@ -1,7 +1,6 @@
 -- `plain::jet::Jet::requested` meets its contract. Assumes nothing.
 use mathlib.Core.Path.{◌≡◌, sym, ap, ◌∙◌}
 use mathlib.Core.Bool.{Bool, true, false, cond}
-use borrow.Author.Rules.{rules}
 use Rattle.cycle.specs.Jets.{reenabled, requested}
 use Rattle.plain.specs.Jet.{by}
 use Rattle.plain.specs.declared.jet.Jet.{Jet}

@@ -1,5 +1,4 @@
 -- `plain::jet::Jet::valve_moved` meets its contract. Assumes nothing.
-use borrow.Author.Rules.{rules}
 use mathlib.Core.Path.{◌∙◌}
 use Rattle.plain.proofs.Steps.{still_open, closing, opening, still-closed}
 use Rattle.plain.proofs.jet.Jet.valve_moved.Goals as goal

@@ -1,6 +1,5 @@
 -- `plain::jet::Jet::valve_opens` meets its contract. Assumes nothing.
 use mathlib.Core.Path.{refl}
-use Rattle.std.proofs.Common.{rules}
 use Rattle.plain.proofs.jet.Jet.valve_opens.Goals as goal
 
 pub returns : goal.returns

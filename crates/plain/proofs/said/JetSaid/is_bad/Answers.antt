@@ -1,5 +1,4 @@
 -- `plain::said::JetSaid::is_bad` meets its contract. Assumes nothing.
-use borrow.Author.Rules.{rules}
 use Rattle.cycle.specs.Jets.{is_bad}
 use Rattle.plain.proofs.said.JetSaid.is_bad.Goals as goal
 

@@ -1,14 +1,8 @@
 -- `plain::string::PlainString::both_ways` meets its contract. Assumes nothing.
-use borrow.Author.Rules.{rules}
-use mathlib.Core.Path.{◌≡◌, ap}
-use mathlib.Core.Bool.{Bool, ◌&&◌}
+use mathlib.Core.Path.{◌≡◌}
 use Prim.Native.Nat.{◌≤◌, ◌-◌}
-use Rattle.bits.specs.Bit.{any}
 use Rattle.cycle.specs.Size.{jet_count}
-use Rattle.cycle.proofs.Loops.{ended}
-use Rattle.plain.specs.Jet.{mapped_jet}
-use Rattle.plain.specs.String.{jet_at, said_at, string_both_ways}
-use Rattle.plain.proofs.Loops.{any-turned}
+use Rattle.plain.specs.String.{string_both_ways}
 use Rattle.plain.proofs.string.PlainString.both_ways.Given as goal
 
 abbrev pub invariant-loop-j : goal.invariant-loop-j

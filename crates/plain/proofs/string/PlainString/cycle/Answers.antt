@@ -1,5 +1,4 @@
 -- `plain::string::PlainString::cycle` meets its contract. Assumes nothing.
-use borrow.Author.Rules.{rules}
 use mathlib.Core.Path.{ap, ◌∙◌}
 use Rattle.plain.specs.String.{only_mapped, cycle}
 use Rattle.plain.proofs.string.PlainString.cycle.Goals as goal

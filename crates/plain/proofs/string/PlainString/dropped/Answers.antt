@@ -1,10 +1,8 @@
 -- `plain::string::PlainString::dropped` meets its contract. Assumes nothing.
 use borrow.Author.Rules.{rules}
-use mathlib.Core.Path.{◌≡◌, refl, ap}
+use mathlib.Core.Path.{refl, ap}
 use mathlib.Core.Bool.{Bool, false, not, ◌&&◌}
 use mathlib.Core.List.{List}
-use Prim.Native.Nat.{◌≤◌, ◌-◌}
-use Rattle.cycle.specs.Size.{manifold_count}
 use Rattle.cycle.specs.Each.{each}
 use Rattle.cycle.proofs.Loops.{turned, ended}
 use Rattle.plain.specs.String.{drop_at, close_left}

@@ -1,12 +1,10 @@
 -- `plain::string::PlainString::fail_word` meets its contract. Assumes nothing.
 use borrow.Author.Rules.{rules}
-use mathlib.Core.Path.{◌≡◌, ap, ◌∙◌}
+use mathlib.Core.Path.{ap, ◌∙◌}
 use mathlib.Core.Bool.{Bool, ◌&&◌}
-use Prim.Native.Nat.{◌≤◌, ◌-◌}
 use native.Mathlib.Numerals.{add-one}
 use Rattle.bits.specs.Bit.{pack}
 use Rattle.bits.proofs.Words.{pack-next}
-use Rattle.cycle.specs.Size.{jet_count}
 use Rattle.cycle.proofs.Loops.{ended}
 use Rattle.plain.specs.Jet.{mapped_jet}
 use Rattle.plain.specs.String.{jet_at}

@@ -1,14 +1,12 @@
 -- `plain::string::PlainString::fresh` meets its contract. Assumes nothing.
-use borrow.Author.Rules.{rules}
 use mathlib.Core.Path.{refl, ap, ◌∙◌}
 use mathlib.Core.Bool.{false}
 use mathlib.Core.List.{List}
-use Prim.Native.Nat.{◌-◌}
 use lib.ListN.{replicate}
-use Rattle.cycle.specs.Size.{jet_count, manifold_count}
-use Rattle.feed.proofs.Records.Tables.{Filling, filling-none, filling-next, filling-end}
+use Rattle.cycle.specs.Size.{manifold_count}
+use Rattle.feed.proofs.Records.Tables.{filling-none, filling-next, filling-end}
 use Rattle.plain.specs.Jet.{fresh_on}
-use Rattle.plain.specs.Map.{place_in, fresh_string}
+use Rattle.plain.specs.Map.{fresh_string}
 use Rattle.plain.specs.declared.jet.Jet.{Jet}
 use Rattle.plain.proofs.string.PlainString.fresh.Goals as goal
 

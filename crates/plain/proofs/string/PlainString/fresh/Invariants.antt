@@ -1,15 +1,9 @@
 -- `plain::string::PlainString::fresh` meets its contract. Assumes nothing.
-use borrow.Author.Rules.{rules}
-use mathlib.Core.Path.{refl, ap, ◌∙◌}
-use mathlib.Core.Bool.{false}
-use mathlib.Core.List.{List}
 use Prim.Native.Nat.{◌-◌}
-use lib.ListN.{replicate}
 use Rattle.cycle.specs.Size.{jet_count, manifold_count}
-use Rattle.feed.proofs.Records.Tables.{Filling, filling-none, filling-next, filling-end}
+use Rattle.feed.proofs.Records.Tables.{Filling}
 use Rattle.plain.specs.Jet.{fresh_on}
-use Rattle.plain.specs.Map.{place_in, fresh_string}
-use Rattle.plain.specs.declared.jet.Jet.{Jet}
+use Rattle.plain.specs.Map.{place_in}
 use Rattle.plain.proofs.string.PlainString.fresh.Given as goal
 
 abbrev pub invariant-loop-j : goal.invariant-loop-j

@@ -1,5 +1,4 @@
 -- `plain::string::PlainString::major_steps` meets its contract. Assumes nothing.
-use borrow.Author.Rules.{rules}
 use mathlib.Core.Path.{ap, ◌∙◌}
 use Rattle.plain.specs.String.{dropped, rechecked, on_failure, kept}
 use Rattle.plain.proofs.string.PlainString.major_steps.Goals as goal

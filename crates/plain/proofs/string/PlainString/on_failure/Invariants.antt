@@ -1,15 +1,8 @@
 -- `plain::string::PlainString::on_failure` meets its contract. Assumes nothing.
-use borrow.Author.Rules.{rules}
 use mathlib.Core.Path.{◌≡◌}
 use Prim.Native.Nat.{◌≤◌, ◌-◌}
 use Rattle.cycle.specs.Size.{jet_count}
-use Rattle.cycle.specs.Each.{each}
-use Rattle.plain.specs.String.{each_of, jet_at, fail_rule}
-use Rattle.plain.proofs.Loops.{jets-turned, string-ended}
-use mathlib.Core.Path.{ap, ◌∙◌}
-use mathlib.Core.Bool.{Bool}
-use Rattle.cycle.specs.Jets as jets
-use Rattle.plain.specs.Jet.{by}
+use Rattle.plain.specs.String.{each_of, fail_rule}
 use Rattle.plain.proofs.string.PlainString.on_failure.Given as goal
 
 abbrev pub invariant-loop-j : goal.invariant-loop-j

@@ -1,11 +1,8 @@
 -- `plain::string::PlainString::only_mapped` meets its contract. Assumes nothing.
-use borrow.Author.Rules.{rules}
 use mathlib.Core.Path.{◌≡◌}
 use Prim.Native.Nat.{◌≤◌, ◌-◌}
 use Rattle.cycle.specs.Size.{jet_count}
-use Rattle.cycle.specs.Each.{each}
 use Rattle.plain.specs.String.{each_of, keep_rule}
-use Rattle.plain.proofs.Loops.{jets-turned, string-ended}
 use Rattle.plain.proofs.string.PlainString.only_mapped.Given as goal
 
 abbrev pub invariant-loop-j : goal.invariant-loop-j

@@ -1,8 +1,5 @@
 -- `plain::string::PlainString::path_lost` meets its contract. Assumes nothing.
 use borrow.Author.Rules.{rules}
-use mathlib.Core.Path.{◌≡◌}
-use Prim.Native.Nat.{◌≤◌, ◌-◌}
-use Rattle.cycle.specs.Size.{jet_count}
 use Rattle.cycle.specs.Each.{each}
 use Rattle.plain.specs.String.{each_of, lost_rule}
 use Rattle.plain.proofs.Loops.{jets-turned, string-ended}

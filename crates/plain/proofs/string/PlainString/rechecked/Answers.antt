@@ -1,11 +1,10 @@
 -- `plain::string::PlainString::rechecked` meets its contract. Assumes nothing.
 use borrow.Author.Rules.{rules}
-use mathlib.Core.Path.{◌≡◌, ap}
+use mathlib.Core.Path.{ap}
 use mathlib.Core.Bool.{Bool, false, ◌||◌}
 use mathlib.Core.List.{List}
-use Prim.Native.Nat.{◌≤◌, ◌-◌}
 use lib.ListN.{get_or}
-use Rattle.cycle.specs.Size.{jet_count, manifold_count}
+use Rattle.cycle.specs.Size.{jet_count}
 use Rattle.cycle.specs.Each.{each}
 use Rattle.cycle.proofs.Loops.{turned, ended}
 use Rattle.plain.specs.String.{some_asks, closes}

@@ -1,11 +1,8 @@
 -- `plain::string::PlainString::requested` meets its contract. Assumes nothing.
-use borrow.Author.Rules.{rules}
 use mathlib.Core.Path.{◌≡◌}
 use Prim.Native.Nat.{◌≤◌, ◌-◌}
 use Rattle.cycle.specs.Size.{jet_count}
-use Rattle.cycle.specs.Each.{each}
 use Rattle.plain.specs.String.{each_of, request_rule}
-use Rattle.plain.proofs.Loops.{jets-turned, string-ended}
 use Rattle.plain.proofs.string.PlainString.requested.Given as goal
 
 abbrev pub invariant-loop-j : goal.invariant-loop-j

@@ -1,11 +1,10 @@
 -- `plain::string::PlainString::some_asks` meets its contract. Assumes nothing.
 use borrow.Author.Rules.{rules}
-use mathlib.Core.Path.{◌≡◌, ap, ap₂, ◌∙◌}
+use mathlib.Core.Path.{ap, ap₂, ◌∙◌}
 use mathlib.Core.Bool.{Bool, ◌&&◌}
-use Prim.Native.Nat.{ℕ, ◌≤◌, ◌-◌}
+use Prim.Native.Nat.{ℕ}
 use lib.Dec.{eqb}
 use Rattle.bits.specs.Bit.{any}
-use Rattle.cycle.specs.Size.{jet_count}
 use Rattle.cycle.specs.Jets as jets
 use Rattle.cycle.proofs.Loops.{ended}
 use Rattle.plain.specs.Jet.{place_of, state_of}

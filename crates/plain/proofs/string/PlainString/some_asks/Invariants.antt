@@ -1,16 +1,8 @@
 -- `plain::string::PlainString::some_asks` meets its contract. Assumes nothing.
-use borrow.Author.Rules.{rules}
-use mathlib.Core.Path.{◌≡◌, ap, ap₂, ◌∙◌}
-use mathlib.Core.Bool.{Bool, ◌&&◌}
-use Prim.Native.Nat.{ℕ, ◌≤◌, ◌-◌}
-use lib.Dec.{eqb}
-use Rattle.bits.specs.Bit.{any}
+use mathlib.Core.Path.{◌≡◌}
+use Prim.Native.Nat.{◌≤◌, ◌-◌}
 use Rattle.cycle.specs.Size.{jet_count}
-use Rattle.cycle.specs.Jets as jets
-use Rattle.cycle.proofs.Loops.{ended}
-use Rattle.plain.specs.Jet.{place_of, state_of}
-use Rattle.plain.specs.String.{jet_at, bad_at, some_asks}
-use Rattle.plain.proofs.Loops.{any-turned}
+use Rattle.plain.specs.String.{some_asks}
 use Rattle.plain.proofs.string.PlainString.some_asks.Given as goal
 
 abbrev pub invariant-loop-j : goal.invariant-loop-j

@@ -1,5 +1,4 @@
 -- `plain::string::PlainString::steps` meets its contract. Assumes nothing.
-use borrow.Author.Rules.{rules}
 use Rattle.plain.proofs.Steps.{steps-lost, steps-major, steps-minor}
 use Rattle.plain.proofs.string.PlainString.steps.Goals as goal
 
