@@ -36,7 +36,7 @@ def place(module, name):
 def definitions(path):
     """The definitions of a file, or the types that a source file declares: name and text."""
     if path.endswith(".rt"):
-        return dict(re.findall(r"^pub (?:struct|enum) (\w+) \{(.*?)^\}", re.sub(r"\w+: ", "", text_of(path)), re.M | re.S))
+        return dict(re.findall(r"^pub (?:struct|enum) (\w+)(?:<\w+>)? \{(.*?)^\}", re.sub(r"\w+: ", "", text_of(path)), re.M | re.S))
     parts = re.split(r"^ *(?:(?:abbrev|unfoldable) pub|pub (?:record|data)) (\S+)", text_of(path), flags=re.M)
     return dict(zip(parts[1::2], parts[2::2]))
 

@@ -8,7 +8,6 @@ use native.Mathlib.Omega.{arith}
 use borrow.Rule.Slice.PartMut.{put_mid}
 use lib.ListN.{length, get_or, drop, drop_of_length-le, length-append, get_or-append}
 use Rattle.cycle.specs.Size.{string_count, manifold_count, module_count}
-use Rattle.cycle.specs.Each.{table}
 use Rattle.cycle.specs.Map.{masks_of}
 use Rattle.cycle.specs.Hall.{past_string}
 use Rattle.cycle.specs.declared.banks.Bank.{Bank}
@@ -17,12 +16,12 @@ use Rattle.cycle.specs.declared.map.Masks.{Masks}
 use Rattle.cycle.specs.declared.string.Standing.{Standing}
 use Rattle.cycle.specs.declared.string.StringState.{StringState}
 use Rattle.feed.specs.Size.{word_length, masks_length, map_length}
-use Rattle.feed.specs.Bytes.{two, four, in_four, parts}
+use Rattle.feed.specs.Bytes.{two, in_four, parts}
 use Rattle.feed.proofs.Reports.Parts.{get_d_past, parts-length, parts_same}
 use Rattle.feed.proofs.Reports.Written.{put_next}
 use Rattle.calls.specs.Layout.{standing_words, off_from, on_from, over_from, close_at, string_words, words_length}
 use Rattle.calls.specs.Layout.{string_length, lesser_at, difference_at, bank_length, masks_from, strings_from, banks_from, hall_length}
-use Rattle.calls.specs.Layout.{flag_in, word_in, per_manifold, standing_in, string_in, masks_in, bank_in, hall_in}
+use Rattle.calls.specs.Layout.{flag_in, word_in, per_manifold, standing_in, string_in, masks_in, bank_in}
 use Rattle.calls.specs.Layout.{in_flag, in_words, string_words_of, in_string, in_bank, in_map, in_strings, in_banks, in_hall}
 
 -- ---- read
@@ -67,15 +66,6 @@ module _ (l : List ℕ) where
 
   abbrev pub bank_no : ℕ → Bank
   bank_no m = bank_in l (banks_from + bank_length * m)
-
-  pub hall-read : {n : ℕ} {a b c d : Masks} {p q r s : StringState} {x y z : Bank} → a ≡ masks_no 0 → b ≡ masks_no 1 → c ≡ masks_no 2
-      → d ≡ masks_no 3 → p ≡ string_no 0 → q ≡ string_no 1 → r ≡ string_no 2 → s ≡ string_no 3 → x ≡ bank_no 0 → y ≡ bank_no 1
-      → z ≡ bank_no 2 → n ≡ four l 0
-      → ◌≡◌ {A = Hall}
-      (record { n = n; masks = a ∷ b ∷ c ∷ d ∷ []; strings = p ∷ q ∷ r ∷ s ∷ []; banks = x ∷ y ∷ z ∷ [] })
-      (hall_in l)
-  unfolding hall_in table
-  hall-read h₁ h₂ h₃ h₄ h₅ h₆ h₇ h₈ h₉ h₁₀ h₁₁ h₁₂ = rw (h₁, h₂, h₃, h₄, h₅, h₆, h₇, h₈, h₉, h₁₀, h₁₁, h₁₂) refl
 
 -- ---- the parts' lengths
 

@@ -5,20 +5,23 @@
 // and a saved set for each manifold), off slots (newest, older, oldest), on slots (newest, older) and recheck word, inhibits, re-enables
 // and close word, and whether its path is lost; for each module whether it is out of balance, whether the oxidizer is the lesser, the
 // lesser quantity (2) and the difference (2).
-ghost use Rattle.std.specs.Prelude.{◌≡◌, ◌+◌, ◌*◌, ◌<◌, ◌≤◌, length};
-ghost use Rattle.cycle.specs.Size.{manifold_count, string_count, module_count};
-ghost use Rattle.feed.specs.Size.{word_length, masks_length, map_length};
+ghost use Rattle.std.specs.Prelude.{◌≡◌, ℕ, ◌+◌, ◌*◌, ◌<◌, ◌≤◌, List, length, flat_map};
+ghost use Rattle.cycle.specs.Size.{manifold_count};
+ghost use Rattle.feed.specs.Size.{word_length, masks_length};
+ghost use Rattle.feed.specs.Bytes.{in_four};
 ghost use Rattle.calls.specs.Layout.{standing_words, string_words, standing_length, string_length, bank_length, hall_length};
 ghost use Rattle.calls.specs.Layout.{flag_in, word_in, per_manifold, standing_in, string_in, masks_in, bank_in, hall_in};
-ghost use Rattle.calls.specs.Layout.{in_flag, in_words, words_of, other_words_of, in_string, in_bank, in_map, in_strings, in_banks, in_hall};
+ghost use Rattle.calls.specs.Layout.{in_words, words_of, other_words_of, in_string, in_bank, in_hall};
 
 use cycle::banks::Bank;
 use cycle::hall::Hall;
 use cycle::map::Masks;
 use cycle::size::{MANIFOLDS, MODULES, STRINGS};
-use cycle::string::{OffSlots, OnSlots, Overrides, Standing, StringState};
+use cycle::slots::{OffSlots, OnSlots, Overrides};
+use cycle::string::{Standing, StringState};
 use feed::bytes::{put_four, put_two, read_four, read_two};
 use feed::size::{MAP, MASKS_LENGTH, QUANTITY_LENGTH, WORD_LENGTH};
+use std::array;
 
 // Lengths and places; specs/Layout says the same.
 const STANDING_WORDS: usize = 2 + MANIFOLDS;
@@ -61,89 +64,78 @@ const BANKS_FROM: usize = STRINGS_FROM + STRING_LENGTH * STRINGS;
 
 pub(crate) const HALL: usize = BANKS_FROM + BANK_LENGTH * MODULES;
 
-fn flag_in(b: &[u8], i: usize) -> bool
-    requires { i < length b.now }
+fn flag_in(b: &[u8; HALL], i: usize) -> bool
+    requires { i < hall_length }
     ensures { result ≡ flag_in b.now i }
 {
     b[i] != 0
 }
 
 // The k-th word of the part that begins at place i.
-fn word_in(b: &[u8], i: usize, k: usize) -> u32
-    requires { (i ≤ length b.now) × (k < string_words) × (length b.now < 65536) }
+fn word_in(b: &[u8; HALL], i: usize, k: usize) -> u32
+    requires { (i ≤ hall_length) × (k < string_words) }
     ensures { result ≡ word_in b.now i k }
 {
     read_four(b, i + WORD_LENGTH * k)
 }
 
 // The words from the k-th on, one for each manifold.
-fn per_manifold(b: &[u8], i: usize, k: usize) -> [u32; MANIFOLDS]
-    requires { (i ≤ length b.now) × (k + manifold_count ≤ string_words) × (length b.now < 65536) }
+fn per_manifold(b: &[u8; HALL], i: usize, k: usize) -> [u32; MANIFOLDS]
+    requires { (i ≤ hall_length) × (k + manifold_count ≤ string_words) }
     ensures { result ≡ per_manifold b.now i k }
 {
-    let mut words = [0u32; MANIFOLDS];
-    let mut m: usize = 0;
-    while m < MANIFOLDS {
-        words[m] = word_in(b, i, k + m);
-        m += 1;
-    }
-    words
+    array::from_fn(|m| word_in(b, i, k + m))
 }
 
 // A standing from the k-th word on.
-fn standing_in(b: &[u8], i: usize, k: usize) -> Standing
-    requires { (i ≤ length b.now) × (k + standing_words ≤ string_words) × (length b.now < 65536) }
+fn standing_in(b: &[u8; HALL], i: usize, k: usize) -> Standing
+    requires { (i ≤ hall_length) × (k + standing_words ≤ string_words) }
     ensures { result ≡ standing_in b.now i k }
 {
-    let saved = per_manifold(b, i, k + 2);
     Standing {
         fail: word_in(b, i, k),
         valves: word_in(b, i, k + 1),
-        saved: saved,
+        saved: per_manifold(b, i, k + 2),
     }
 }
 
-fn string_in(b: &[u8], i: usize) -> StringState
-    requires { (i + string_length ≤ length b.now) × (length b.now < 65536) }
+fn string_in(b: &[u8; HALL], i: usize) -> StringState
+    requires { i + string_length ≤ hall_length }
     ensures { result ≡ string_in b.now i }
 {
-    let standing = standing_in(b, i, 0);
-    let good = standing_in(b, i, STANDING_WORDS);
-    let off = OffSlots {
-        newest: word_in(b, i, OFF_FROM),
-        older: word_in(b, i, OFF_FROM + 1),
-        oldest: word_in(b, i, OFF_FROM + 2),
-    };
-    let on = OnSlots {
-        newest: word_in(b, i, ON_FROM),
-        older: word_in(b, i, ON_FROM + 1),
-        recheck: word_in(b, i, ON_FROM + 2),
-    };
-    let over = Overrides {
-        inhibit: word_in(b, i, OVER_FROM),
-        reenable: word_in(b, i, OVER_FROM + 1),
-    };
     StringState {
-        standing: standing,
-        good: good,
-        off: off,
-        on: on,
-        over: over,
+        standing: standing_in(b, i, 0),
+        good: standing_in(b, i, STANDING_WORDS),
+        off: OffSlots {
+            newest: word_in(b, i, OFF_FROM),
+            older: word_in(b, i, OFF_FROM + 1),
+            oldest: word_in(b, i, OFF_FROM + 2),
+        },
+        on: OnSlots {
+            newest: word_in(b, i, ON_FROM),
+            older: word_in(b, i, ON_FROM + 1),
+            recheck: word_in(b, i, ON_FROM + 2),
+        },
+        over: Overrides {
+            inhibit: word_in(b, i, OVER_FROM),
+            reenable: word_in(b, i, OVER_FROM + 1),
+        },
         close: word_in(b, i, CLOSE_AT),
         lost: flag_in(b, i + WORDS_LENGTH),
     }
 }
 
-fn masks_in(b: &[u8], i: usize) -> Masks
-    requires { (i ≤ length b.now) × (length b.now < 65536) }
+fn masks_in(b: &[u8; HALL], i: usize) -> Masks
+    requires { i ≤ hall_length }
     ensures { result ≡ masks_in b.now i }
 {
-    let words = per_manifold(b, i, 0);
-    Masks { words: words }
+    Masks {
+        words: per_manifold(b, i, 0),
+    }
 }
 
-fn bank_in(b: &[u8], i: usize) -> Bank
-    requires { (i + bank_length ≤ length b.now) × (length b.now < 65536) }
+fn bank_in(b: &[u8; HALL], i: usize) -> Bank
+    requires { i + bank_length ≤ hall_length }
     ensures { result ≡ bank_in b.now i }
 {
     Bank {
@@ -158,47 +150,47 @@ fn bank_in(b: &[u8], i: usize) -> Bank
 pub(crate) fn hall_in(b: &[u8; HALL]) -> Hall
     ensures { result ≡ hall_in b.now }
 {
-    let masks = [
-        masks_in(b, MASKS_FROM),
-        masks_in(b, MASKS_FROM + MASKS_LENGTH),
-        masks_in(b, MASKS_FROM + MASKS_LENGTH * 2),
-        masks_in(b, MASKS_FROM + MASKS_LENGTH * 3),
-    ];
-    let strings = [
-        string_in(b, STRINGS_FROM),
-        string_in(b, STRINGS_FROM + STRING_LENGTH),
-        string_in(b, STRINGS_FROM + STRING_LENGTH * 2),
-        string_in(b, STRINGS_FROM + STRING_LENGTH * 3),
-    ];
-    let banks = [
-        bank_in(b, BANKS_FROM),
-        bank_in(b, BANKS_FROM + BANK_LENGTH),
-        bank_in(b, BANKS_FROM + BANK_LENGTH * 2),
-    ];
     Hall {
         n: read_four(b, 0),
-        masks: masks,
-        strings: strings,
-        banks: banks,
+        masks: array::from_fn(|s| masks_in(b, MASKS_FROM + MASKS_LENGTH * s)),
+        strings: array::from_fn(|s| string_in(b, STRINGS_FROM + STRING_LENGTH * s)),
+        banks: array::from_fn(|m| bank_in(b, BANKS_FROM + BANK_LENGTH * m)),
     }
 }
 
-fn flag(x: bool) -> u8
-    ensures { result ≡ in_flag x }
-{
-    if x { 1 } else { 0 }
+// A value with its bytes, of which each value of the type has as many.
+trait Part {
+    ghost LENGTH: { ℕ };
+
+    ghost bytes: { Self → List ℕ };
+
+    const LENGTH: usize;
+
+    fn put(self, b: &mut [u8])
+        requires { length b.old ≡ LENGTH }
+        ensures { b.new ≡ bytes self };
 }
 
-// The words, one behind the other.
-fn put_words(b: &mut [u8], words: &[u32])
-    requires { (length b.old ≡ word_length * length words.now) × (length b.old < 65536) }
-    ensures { b.new ≡ in_words (length words.now) words.now }
+// Each into its place.
+fn put_each<P: Part + Copy>(b: &mut [u8], each: &[P])
+    requires { length b.old ≡ P.LENGTH * length each.now }
+    ensures { b.new ≡ flat_map P.bytes each.now }
 {
-    let mut k: usize = 0;
-    while k < words.len() {
-        let a = WORD_LENGTH * k;
-        put_four(&mut b[a..a + WORD_LENGTH], words[k]);
-        k += 1;
+    for (i, part) in each.iter().enumerate() {
+        let at = P::LENGTH * i;
+        part.put(&mut b[at..at + P::LENGTH]);
+    }
+}
+
+impl Part for u32 {
+    ghost LENGTH = { word_length };
+
+    ghost bytes = { in_four };
+
+    const LENGTH: usize = WORD_LENGTH;
+
+    fn put(self, b: &mut [u8]) {
+        put_four(b, self);
     }
 }
 
@@ -208,100 +200,66 @@ fn put_standing(b: &mut [u8], x: Standing)
     ensures b_after { b.new ≡ in_words standing_words (words_of x) }
     ensures saved_len { length x.saved ≡ manifold_count }
 {
-    let first = [x.fail, x.valves];
-    let saved = x.saved;
-    put_words(&mut b[0..SAVED_FROM], &first);
-    put_words(&mut b[SAVED_FROM..STANDING_LENGTH], &saved);
+    put_each(&mut b[..SAVED_FROM], &[x.fail, x.valves]);
+    put_each(&mut b[SAVED_FROM..STANDING_LENGTH], &x.saved);
 }
 
 // The words of a string behind its standing and its good copy.
 fn other_words(x: StringState) -> [u32; OTHER_WORDS]
     ensures { result ≡ other_words_of x }
 {
-    let off = x.off;
-    let on = x.on;
-    let over = x.over;
     [
-        off.newest,
-        off.older,
-        off.oldest,
-        on.newest,
-        on.older,
-        on.recheck,
-        over.inhibit,
-        over.reenable,
+        x.off.newest,
+        x.off.older,
+        x.off.oldest,
+        x.on.newest,
+        x.on.older,
+        x.on.recheck,
+        x.over.inhibit,
+        x.over.reenable,
         x.close,
     ]
 }
 
-fn put_string(b: &mut [u8], x: StringState)
-    requires { length b.old ≡ string_length }
-    ensures { b.new ≡ in_string x }
-{
-    let standing = x.standing;
-    let good = x.good;
-    let others = other_words(x);
-    put_standing(&mut b[0..STANDING_LENGTH], standing);
-    put_standing(&mut b[STANDING_LENGTH..OTHERS_FROM], good);
-    put_words(&mut b[OTHERS_FROM..WORDS_LENGTH], &others);
-    b[WORDS_LENGTH] = flag(x.lost);
-}
+impl Part for StringState {
+    ghost LENGTH = { string_length };
 
-fn put_masks(b: &mut [u8], m: Masks)
-    requires { length b.old ≡ masks_length }
-    ensures { b.new ≡ in_words manifold_count m.words }
-{
-    let words = m.words;
-    put_words(b, &words);
-}
+    ghost bytes = { in_string };
 
-fn put_bank(b: &mut [u8], x: Bank)
-    requires { length b.old ≡ bank_length }
-    ensures { b.new ≡ in_bank x }
-{
-    b[0] = flag(x.unbalanced);
-    b[1] = flag(x.oxidizer);
-    put_two(&mut b[LESSER_AT..DIFFERENCE_AT], x.lesser);
-    put_two(&mut b[DIFFERENCE_AT..BANK_LENGTH], x.difference);
-}
+    const LENGTH: usize = STRING_LENGTH;
 
-// The masks of all strings.
-fn put_map(b: &mut [u8], masks: [Masks; STRINGS])
-    requires { length b.old ≡ map_length }
-    ensures { b.new ≡ in_map masks }
-{
-    let mut s: usize = 0;
-    while s < STRINGS {
-        let a = MASKS_LENGTH * s;
-        let m = masks[s];
-        put_masks(&mut b[a..a + MASKS_LENGTH], m);
-        s += 1;
+    fn put(self, b: &mut [u8]) {
+        put_standing(&mut b[..STANDING_LENGTH], self.standing);
+        put_standing(&mut b[STANDING_LENGTH..OTHERS_FROM], self.good);
+        put_each(&mut b[OTHERS_FROM..WORDS_LENGTH], &other_words(self));
+        b[WORDS_LENGTH] = u8::from(self.lost);
     }
 }
 
-fn put_strings(b: &mut [u8], strings: [StringState; STRINGS])
-    requires { length b.old ≡ string_length * string_count }
-    ensures { b.new ≡ in_strings strings }
-{
-    let mut s: usize = 0;
-    while s < STRINGS {
-        let a = STRING_LENGTH * s;
-        let x = strings[s];
-        put_string(&mut b[a..a + STRING_LENGTH], x);
-        s += 1;
+impl Part for Masks {
+    ghost LENGTH = { masks_length };
+
+    ghost bytes = { λ m. in_words manifold_count m.words };
+
+    const LENGTH: usize = MASKS_LENGTH;
+
+    fn put(self, b: &mut [u8]) {
+        put_each(b, &self.words);
     }
 }
 
-fn put_banks(b: &mut [u8], banks: [Bank; MODULES])
-    requires { length b.old ≡ bank_length * module_count }
-    ensures { b.new ≡ in_banks banks }
-{
-    let mut m: usize = 0;
-    while m < MODULES {
-        let a = BANK_LENGTH * m;
-        let x = banks[m];
-        put_bank(&mut b[a..a + BANK_LENGTH], x);
-        m += 1;
+impl Part for Bank {
+    ghost LENGTH = { bank_length };
+
+    ghost bytes = { in_bank };
+
+    const LENGTH: usize = BANK_LENGTH;
+
+    fn put(self, b: &mut [u8]) {
+        b[0] = u8::from(self.unbalanced);
+        b[1] = u8::from(self.oxidizer);
+        put_two(&mut b[LESSER_AT..DIFFERENCE_AT], self.lesser);
+        put_two(&mut b[DIFFERENCE_AT..BANK_LENGTH], self.difference);
     }
 }
 
@@ -309,13 +267,10 @@ fn put_hall(b: &mut [u8], h: Hall)
     requires { length b.old ≡ hall_length }
     ensures { b.new ≡ in_hall h }
 {
-    let masks = h.masks;
-    let strings = h.strings;
-    let banks = h.banks;
-    put_four(&mut b[0..MASKS_FROM], h.n);
-    put_map(&mut b[MASKS_FROM..STRINGS_FROM], masks);
-    put_strings(&mut b[STRINGS_FROM..BANKS_FROM], strings);
-    put_banks(&mut b[BANKS_FROM..HALL], banks);
+    put_four(&mut b[..MASKS_FROM], h.n);
+    put_each(&mut b[MASKS_FROM..STRINGS_FROM], &h.masks);
+    put_each(&mut b[STRINGS_FROM..BANKS_FROM], &h.strings);
+    put_each(&mut b[BANKS_FROM..HALL], &h.banks);
 }
 
 // The bytes of a hall.
@@ -323,6 +278,6 @@ pub(crate) fn hall_bytes(h: Hall) -> [u8; HALL]
     ensures { result ≡ in_hall h }
 {
     let mut b = [0u8; HALL];
-    put_hall(&mut b[..], h);
+    put_hall(&mut b, h);
     b
 }

@@ -11,21 +11,21 @@
 // (619). At the end of its input, at a script that breaks off and at a piece that is too long the program stops silently.
 #![tactic(auto)]
 
-ghost use Rattle.std.specs.Prelude.{◌≡◌, true, ◌∷◌, ◌%◌, ◌<◌, ◌≤◌, length};
+ghost use Rattle.std.specs.Prelude.{◌≡◌, ◌∷◌, ◌%◌, ◌<◌, ◌≤◌, IfSome};
 ghost use Rattle.cycle.specs.Answers.{number_of};
 ghost use Rattle.feed.specs.Bytes.{two, in_two};
 ghost use Rattle.feed.specs.Call.{call};
 ghost use Rattle.feed.specs.Masks.{started_from};
-ghost use Rattle.calls.specs.Handed.{masks_given, handed, handed_in, OneCall};
+ghost use Rattle.calls.specs.Handed.{masks_given, kind_of, handed, handed_in, OneCall};
 
 mod layout;
 
 use crate::layout::{HALL, MASKS_FROM, STRINGS_FROM, hall_bytes, hall_in};
 use cycle::answer::Answer;
 use cycle::hall::Hall;
-use feed::bytes::{put_two, read_two};
 use feed::call::{Monitor, Outcome};
 use feed::size::STORE;
+use lines::read::came;
 use std::io::{Read, Write};
 
 // The longest piece, and the longest outbox that one byte can name.
@@ -33,34 +33,38 @@ const PIECE: usize = 4096;
 
 const OUTBOX: usize = 255;
 
-// A script's header; `whole` says that all of it came.
+// What a script hands in: the state that the start over its hall's masks gives, or its whole hall as it stands.
+#[derive(Clone, Copy, Debug, PartialEq, Eq)]
+enum Kind {
+    Started,
+    Whole,
+}
+
+impl From<u8> for Kind {
+    ghost from_gives = { λ byte kind. kind ≡ kind_of byte };
+
+    fn from(byte: u8) -> Kind {
+        match byte {
+            0 => Kind::Started,
+            _ => Kind::Whole,
+        }
+    }
+}
+
+// A script's header.
 #[derive(Clone, Copy)]
 struct Header {
-    whole: bool,
-    kind: u8,
+    kind: Kind,
     hall: [u8; HALL],
     count: usize,
     held: [u8; STORE],
     calls: usize,
 }
 
-// The monitor that goes on, and whether there is anything to go on with.
-#[derive(Clone, Copy)]
-struct Step {
-    going: bool,
-    monitor: Monitor,
-}
-
-fn wide(x: u8) -> usize
-    ensures { (result ≡ x) × (result < 256) }
-{
-    x as usize
-}
-
 fn two_of(b: &[u8; 2]) -> usize
     ensures { (result ≡ two b.now 0) × (result < 65536) }
 {
-    read_two(b, 0) as usize
+    usize::from(u16::from_be_bytes(*b))
 }
 
 // The low 16 bits.
@@ -74,144 +78,102 @@ fn low_two(x: usize) -> u16
 fn front(answer: Answer, used: usize) -> [u8; 3]
     ensures { result ≡ number_of answer ∷ in_two used }
 {
-    let mut b = [answer.number(), 0, 0];
-    put_two(&mut b[1..3], low_two(used));
-    b
+    let [high, low] = low_two(used).to_be_bytes();
+    [answer.number(), high, low]
 }
 
 // The low 16 bits of the count.
 fn count_bytes(count: usize) -> [u8; 2]
     ensures { result ≡ in_two count }
 {
-    let mut b = [0u8; 2];
-    put_two(&mut b[0..2], low_two(count));
-    b
+    low_two(count).to_be_bytes()
 }
 
-// Reads the next n bytes to the front of the buffer; no, where they do not fit or the input ends before.
-fn came(reader: &mut impl Read, buf: &mut [u8], n: usize) -> bool
-    ensures { result ≡ true → n ≤ length buf.new }
-{
-    if n <= buf.len() {
-        reader.read_exact(&mut buf[..n]).is_ok()
-    } else {
-        false
-    }
+// The next bytes; none, where the input ends before.
+fn next_bytes<const N: usize>(reader: &mut impl Read) -> Option<[u8; N]> {
+    let mut bytes = [0u8; N];
+    came(reader, &mut bytes, N).then_some(bytes)
 }
 
 // The next script's header.
-fn next_header(reader: &mut impl Read) -> Header
-    ensures { (result.count < 65536) × (result.calls < 65536) }
+fn next_header(reader: &mut impl Read) -> Option<Header>
+    ensures { IfSome result (λ h. (h.count < 65536) × (h.calls < 65536)) }
 {
-    let mut kind = [0u8; 1];
-    let mut hall = [0u8; HALL];
-    let mut count = [0u8; 2];
-    let mut held = [0u8; STORE];
-    let mut calls = [0u8; 2];
-    let whole = came(reader, &mut kind, 1)
-        && came(reader, &mut hall, HALL)
-        && came(reader, &mut count, 2)
-        && came(reader, &mut held, STORE)
-        && came(reader, &mut calls, 2);
-    Header {
-        whole: whole,
-        kind: kind[0],
-        hall: hall,
-        count: two_of(&count),
-        held: held,
-        calls: two_of(&calls),
-    }
+    let [kind] = next_bytes::<1>(reader)?;
+    Some(Header {
+        kind: Kind::from(kind),
+        hall: next_bytes(reader)?,
+        count: two_of(&next_bytes(reader)?),
+        held: next_bytes(reader)?,
+        calls: two_of(&next_bytes(reader)?),
+    })
 }
 
-// The hall that is handed in: by kind 0 the started one, but for its cycle number.
-fn handed(kind: u8, started: Hall, given: Hall) -> Hall
+// The hall that is handed in: the started one but for its cycle number, or the given one.
+fn handed(kind: Kind, started: Hall, given: Hall) -> Hall
     ensures { result ≡ handed kind started given }
 {
-    if kind != 0 {
-        return given;
+    match kind {
+        Kind::Started => Hall {
+            n: given.n,
+            ..started
+        },
+        Kind::Whole => given,
     }
-    let mut hall = started;
-    hall.n = given.n;
-    hall
 }
 
 // The start over the header's masks, and its state handed in.
-fn started(h: Header) -> Outcome
+fn started(h: Header) -> Outcome<Monitor>
     ensures answer_value { result.answer ≡ (started_from (masks_given h.hall)).answer }
     ensures monitor_value { result.monitor ≡ handed_in h.kind h.hall h.held h.count }
 {
-    let given = h.hall;
-    let held = h.held;
-    let start = Monitor::start_from(&given[MASKS_FROM..STRINGS_FROM]);
-    let answer = start.answer;
-    let fresh = start.monitor;
-    let begun = fresh.hall;
-    let hall = handed(h.kind, begun, hall_in(&given));
-    let monitor = Monitor {
-        hall: hall,
-        held: held,
-        count: h.count,
-    };
+    let start = Monitor::start_from(&h.hall[MASKS_FROM..STRINGS_FROM]);
     Outcome {
-        answer: answer,
+        answer: start.answer,
         used: 0,
-        monitor: monitor,
+        monitor: Monitor {
+            hall: handed(h.kind, start.monitor.hall, hall_in(&h.hall)),
+            held: h.held,
+            count: h.count,
+        },
     }
 }
 
-// Writes all that a call gave back; the outbox is lent.
-fn said(writer: &mut impl Write, o: Outcome, outbox: &[u8]) -> Step
-    ensures { result.monitor ≡ o.monitor }
+// Writes all that a call gave back, and hands on its monitor; none, where that fails. The outbox is lent.
+fn said(writer: &mut impl Write, o: Outcome<Monitor>, outbox: &[u8]) -> Option<Monitor>
+    ensures { IfSome result (λ m. m ≡ o.monitor) }
 {
-    let answer = o.answer;
-    let monitor = o.monitor;
-    let hall = monitor.hall;
-    let held = monitor.held;
-    let going = writer.write_all(&front(answer, o.used)).is_ok()
-        && writer.write_all(outbox).is_ok()
-        && writer.write_all(&hall_bytes(hall)).is_ok()
-        && writer.write_all(&count_bytes(monitor.count)).is_ok()
-        && writer.write_all(&held).is_ok();
-    Step {
-        going: going,
-        monitor: monitor,
-    }
+    writer.write_all(&front(o.answer, o.used)).ok()?;
+    writer.write_all(outbox).ok()?;
+    writer.write_all(&hall_bytes(o.monitor.hall)).ok()?;
+    writer.write_all(&count_bytes(o.monitor.count)).ok()?;
+    writer.write_all(&o.monitor.held).ok()?;
+    Some(o.monitor)
 }
 
 // One call, and all that it gives back written.
-fn one_call(writer: &mut impl Write, m: Monitor, piece: &[u8], outbox: &mut [u8]) -> Step
-    ensures monitor_value { result.monitor ≡ (call m piece.now outbox.old).outcome.monitor }
+fn one_call(writer: &mut impl Write, m: Monitor, piece: &[u8], outbox: &mut [u8]) -> Option<Monitor>
+    ensures monitor_value { IfSome result (λ x. x ≡ (call m piece.now outbox.old).outcome.monitor) }
     ensures outbox_after { outbox.new ≡ (call m piece.now outbox.old).outbox }
 {
     let o = m.call(piece, outbox);
     said(writer, o, outbox)
 }
 
-// The script's next call; it is not going on where the call did not come whole, or what it gave could not be written.
-fn next_call(reader: &mut impl Read, writer: &mut impl Write, m: Monitor) -> Step
-    ensures { result.going ≡ true → OneCall m result.monitor }
+// The script's next call; none, where it did not come whole, or what it gave could not be written.
+fn next_call(reader: &mut impl Read, writer: &mut impl Write, m: Monitor) -> Option<Monitor>
+    ensures { IfSome result (OneCall m) }
 {
-    let mut length = [0u8; 2];
     let mut piece = [0u8; PIECE];
-    let mut room = [0u8; 1];
     let mut outbox = [0u8; OUTBOX];
-    let stop = Step {
-        going: false,
-        monitor: m,
-    };
-    if !came(reader, &mut length, 2) {
-        return stop;
-    }
-    let n = two_of(&length);
+    let n = two_of(&next_bytes(reader)?);
     if !came(reader, &mut piece, n) {
-        return stop;
+        return None;
     }
-    if !came(reader, &mut room, 1) {
-        return stop;
-    }
-    let k = wide(room[0]);
+    let [room] = next_bytes::<1>(reader)?;
+    let k = usize::from(room);
     if !came(reader, &mut outbox, k) {
-        return stop;
+        return None;
     }
     one_call(writer, m, &piece[..n], &mut outbox[..k])
 }
@@ -221,37 +183,28 @@ fn played(reader: &mut impl Read, writer: &mut impl Write, m: Monitor, calls: us
     ensures { result ≤ calls }
 {
     let mut monitor = m;
-    let mut done: usize = 0;
-    while done < calls {
-        let step = next_call(reader, writer, monitor);
-        if !step.going {
+    for done in 0..calls {
+        let Some(next) = next_call(reader, writer, monitor) else {
             return done;
-        }
-        let next = step.monitor;
+        };
         monitor = next;
-        done += 1;
     }
-    done
+    calls
 }
 
 fn main(rt: HostRuntime) {
     let mut reader = rt.stdin();
     let mut writer = rt.stdout();
-    let mut turns = u64::MAX;
-    while turns > 0 {
-        let h = next_header(&mut reader);
-        if !h.whole {
+    for _ in 0..u64::MAX {
+        let Some(header) = next_header(&mut reader) else {
+            return;
+        };
+        let s = started(header);
+        if writer.write_all(&[s.answer.number()]).is_err() {
             return;
         }
-        let s = started(h);
-        let answer = s.answer;
-        let monitor = s.monitor;
-        if writer.write_all(&[answer.number()]).is_err() {
+        if played(&mut reader, &mut writer, s.monitor, header.calls) < header.calls {
             return;
         }
-        if played(&mut reader, &mut writer, monitor, h.calls) < h.calls {
-            return;
-        }
-        turns -= 1;
     }
 }

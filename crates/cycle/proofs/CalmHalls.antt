@@ -20,8 +20,8 @@ use Rattle.cycle.specs.declared.answer.Answer.TheVariants.{Taken}
 use Rattle.cycle.specs.declared.hall.Hall.{Hall}
 use Rattle.cycle.specs.declared.map.Masks.{Masks}
 use Rattle.cycle.specs.declared.number.Next.{Next}
-use Rattle.cycle.specs.declared.number.Verdict.TheVariants.{Takes}
-use Rattle.cycle.specs.declared.number.Verdict.{Verdict}
+use Rattle.std.specs.Prelude.{Ok}
+use Rattle.cycle.specs.Numbers.{Verdict}
 use Rattle.cycle.specs.declared.string.StringState.{StringState}
 use Rattle.cycle.specs.declared.values.Minor.{Minor}
 use Rattle.cycle.specs.declared.values.Sample.{Sample}
@@ -50,7 +50,7 @@ right-kind major n e = by (is_major n) major (not-true _ e)
     by false true q = sym q
     by false false q = refl
 
-pub follows-judged : (n wire : ℕ) (major : Bool) → follows n wire major ≡ true → judged n wire major ≡ Takes (next_of n)
+pub follows-judged : (n wire : ℕ) (major : Bool) → follows n wire major ≡ true → judged n wire major ≡ Ok (next_of n)
 unfolding follows
 follows-judged n wire major e =
     let rest = and_right (ltb n last_count) _ e in
@@ -61,7 +61,7 @@ follows-judged n wire major e =
     judged-follows n wire major (omega arith) (omega arith)
     ∙ ap (λ (k : ℕ). following n k (ltb 1 k) major) d
     ∙ follows-right n 1 false major (omega arith) kind
-    ∙ ap (λ (b : Bool). Takes (record { n = n + 1; gap = false; missed = b })) (next-none-missed n)
+    ∙ ap (λ (b : Bool). Ok (record { n = n + 1; gap = false; missed = b })) (next-none-missed n)
 
 -- ---- one string
 
@@ -137,7 +137,7 @@ module _ (r : Minor) (h : Hall) (c : all_calm string_count h.strings ≡ true) (
   pub minor-passes : follows h.n r.wire false ≡ true → stepped (minor r) h ≡ record { answer = Taken; hall = onward h }
   unfolding stepped verdict_on unless_both_ways taken
   minor-passes f =
-      let v : verdict_on h.n h.masks (minor r) ≡ Takes (next_of h.n) =
+      let v : verdict_on h.n h.masks (minor r) ≡ Ok (next_of h.n) =
       ap (unless_both_ways false) (follows-judged h.n r.wire false f) in
       ap (λ (y : Verdict). stepped_by y (minor r) h) v
       ∙ (λ i. record { answer = Taken; hall = record { n = h.n + 1; masks = h.masks; strings = strings-calm i; banks = h.banks } })

@@ -18,10 +18,10 @@ use Rattle.cycle.specs.Records.{major}
 use Rattle.cycle.specs.Calm.{calm, all_calm, all_quiet, follows, finds_none, some_leak, quiet_major, kept_strings, kept_all, onward}
 use Rattle.cycle.specs.declared.answer.Answer.TheVariants.{Taken}
 use Rattle.cycle.specs.declared.number.Next.{Next}
-use Rattle.cycle.specs.declared.number.Verdict.TheVariants.{Takes}
-use Rattle.cycle.specs.declared.number.Verdict.{Verdict}
+use Rattle.std.specs.Prelude.{Ok}
+use Rattle.cycle.specs.Numbers.{Verdict}
 use Rattle.cycle.specs.declared.hall.Hall.{Hall}
-use Rattle.cycle.specs.declared.string.OnSlots.{OnSlots}
+use Rattle.cycle.specs.declared.slots.OnSlots.{OnSlots}
 use Rattle.cycle.specs.declared.string.StringState.{StringState}
 use Rattle.cycle.specs.declared.values.Sample.{Sample}
 use Rattle.cycle.specs.declared.values.Temperatures.{Temperatures}
@@ -151,7 +151,7 @@ none_named r h e =
     (λ i b.
     let q : Requests = get_or r.requests i no_requests in
     let jets : ℕ = mapped manifold_count (masks_of h.masks i) in
-    let on : OnSlots = (string_of h i).on in
+    let on : OnSlots ℕ = (string_of h i).on in
     let f = every-at string_count _ none i b in
     let f₃ = and_right (eqb on.recheck 0) _ (and_right (eqb on.older 0) _ (and_right (eqb on.newest 0) _ f)) in
     let inhibit : bit_and jets q.inhibit ≡ 0 = eqb-true _ 0 (and_left (eqb (bit_and jets q.inhibit) 0) _ f₃) in
@@ -163,7 +163,7 @@ pub major-passes : (r : Major) (h : Hall) → all_calm string_count h.strings �
 unfolding stepped verdict_on unless_both_ways taken quiet_major
 major-passes r h c q f e =
     let next : Next = record { n = h.n + 1; gap = false; missed = false } in
-    let v : verdict_on h.n h.masks (major r) ≡ Takes next =
+    let v : verdict_on h.n h.masks (major r) ≡ Ok next =
     ap₂ unless_both_ways (none_named r h e) (follows-judged h.n r.minor.wire true f) in
     ap (λ (y : Verdict). stepped_by y (major r) h) v
     ∙ ap (λ (l : List StringState). record {

@@ -3,7 +3,7 @@ use Rattle.std.proofs.Common.{◌≡◌, ℕ, ◌-◌, ◌/◌, ◌%◌, ◌<◌
 use mathlib.Core.Logic.Iff
 use Rattle.bits.proofs.Yes.{not-both, T_of, T-not-of, and_left, and_right, and_both, not-true, not-false}
 use Rattle.cycle.specs.Size.{major_every}
-use Rattle.cycle.specs.declared.jet.JetOn.{JetOn}
+use Rattle.cycle.specs.declared.slots.OnSlots.{OnSlots}
 use Rattle.cycle.specs.declared.jet.JetState.{JetState}
 use Rattle.cycle.specs.Numbers.{is_major, missed_major}
 use Rattle.cycle.specs.Jets.{JetRecord, no_on, is_bad, minor_steps, after_requests, reached, run}
@@ -41,7 +41,7 @@ both-and-not a b c = (
 -- ---- the slots, told by the history
 
 -- the newest on slot and the recheck word are told by the major cycle a
-pub record Told (a : ℕ) (h : List JetRecord) (x : JetOn) : Type 0 where
+pub record Told (a : ℕ) (h : List JetRecord) (x : OnSlots Bool) : Type 0 where
   pub once : (x.newest ≡ true) ↔ BadOnce a h
   pub twice : (x.recheck ≡ true) ↔ BadTwice a h
 
@@ -114,7 +114,7 @@ told-major h r t i p q = record {
     m : r.n % major_every ≡ 0
     m = major-is r.n q
 
-    slots : JetOn
+    slots : OnSlots Bool
     slots = (minor_steps (reached h) r (run h)).on
 
     newest : (run (r ∷ h)).on.newest ≡ is_bad r

@@ -1,6 +1,6 @@
 -- What one cycle does to a jet's on slots, its re-enable and the remembered path fault. Assumes nothing.
 use Rattle.std.proofs.Common.{◌≡◌, ℕ, Bool, true, false, cond, not, ◌&&◌, List, ◌∷◌, sym, refl, ap, ◌∙◌, ap₂}
-use Rattle.cycle.specs.declared.jet.JetOn.{JetOn}
+use Rattle.cycle.specs.declared.slots.OnSlots.{OnSlots}
 use Rattle.cycle.specs.declared.jet.JetState.{JetState}
 use Rattle.cycle.specs.Numbers.{is_major, missed_cycle, missed_major}
 use Rattle.cycle.specs.Jets.{JetRecord, no_on, path_lost, recovered, gapped, off_failure, valve_moved, remembered, reenabled, requested}
@@ -143,4 +143,4 @@ unfolding asks_at
 major-asks old r s p m =
     let x = after_requests old r s in
     ap₂ (λ (b c : Bool). not b && c && asks (is_bad r) x) p m
-    ∙ ap (λ (y : JetOn). y.recheck && is_bad r && not x.over.reenable) (requests-keep-slots old r s)
+    ∙ ap (λ (y : OnSlots Bool). y.recheck && is_bad r && not x.over.reenable) (requests-keep-slots old r s)

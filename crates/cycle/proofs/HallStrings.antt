@@ -17,8 +17,8 @@ use Rattle.cycle.specs.Proper.{ProperStanding, ProperHall}
 use Rattle.cycle.specs.declared.banks.Bank.{Bank}
 use Rattle.cycle.specs.declared.map.Masks.{Masks}
 use Rattle.cycle.specs.declared.number.Next.{Next}
-use Rattle.cycle.specs.declared.number.Verdict.{Verdict}
-use Rattle.cycle.specs.declared.number.Verdict.TheVariants.{Takes, Refuses}
+use Rattle.cycle.specs.Numbers.{Verdict}
+use Rattle.std.specs.Prelude.{Ok, Err}
 use Rattle.cycle.specs.declared.string.StringState.{StringState}
 use Rattle.cycle.specs.declared.values.Minor.{Minor}
 use Rattle.cycle.specs.declared.values.Major.{Major}
@@ -125,5 +125,5 @@ unfolding stepped
 stepped-proper r h p = by (verdict_on h.n h.masks r)
   where
     by : (v : Verdict) → ProperHall (stepped_by v r h).hall
-    by (Takes next) = taken-proper r next h p
-    by (Refuses a) = p
+    by (Ok next) = taken-proper r next h p
+    by (Err a) = p

@@ -5,8 +5,8 @@ use native.Mathlib.Decide.{ℕ_discrete, dec_lt}
 use Rattle.cycle.specs.Size.{last_count, stale_from}
 use Rattle.cycle.specs.Numbers.{distance, is_major, missed_cycle, missed_major, judged}
 use Rattle.cycle.specs.declared.number.Next.{Next}
-use Rattle.cycle.specs.declared.number.Verdict.{Verdict}
-use Rattle.cycle.specs.declared.number.Verdict.TheVariants.{Takes, Refuses}
+use Rattle.cycle.specs.Numbers.{Verdict}
+use Rattle.std.specs.Prelude.{Ok, Err}
 use Rattle.cycle.specs.declared.answer.Answer.TheVariants.{Stale, Repeat, CountEnded, WrongKind}
 use Rattle.cycle.proofs.Numbers.{judged-repeat, judged-stale, judged-follows, follows-ended, follows-wrong, follows-right}
 
@@ -17,16 +17,16 @@ abbrev pub apart : ℕ → ℕ → ℕ
 apart n wire = (wire + (65536 - n % 65536)) % 65536
 
 pub data Judgement (n wire : ℕ) (major : Bool) : Verdict → Type 0 where
-  repeats : apart n wire ≡ 0 → Judgement n wire major (Refuses Repeat)
-  stale : 32768 ≤ apart n wire → Judgement n wire major (Refuses Stale)
+  repeats : apart n wire ≡ 0 → Judgement n wire major (Err Repeat)
+  stale : 32768 ≤ apart n wire → Judgement n wire major (Err Stale)
   ends : 0 < apart n wire → apart n wire < 32768 → 4294967295 < n + apart n wire
-      → Judgement n wire major (Refuses CountEnded)
+      → Judgement n wire major (Err CountEnded)
   wrong : 0 < apart n wire → apart n wire < 32768 → n + apart n wire ≤ 4294967295
-      → eqb ((n + apart n wire) % 25) 0 ≡ not major → Judgement n wire major (Refuses WrongKind)
+      → eqb ((n + apart n wire) % 25) 0 ≡ not major → Judgement n wire major (Err WrongKind)
   follows : 0 < apart n wire → apart n wire < 32768 → n + apart n wire ≤ 4294967295
       → eqb ((n + apart n wire) % 25) 0 ≡ major
       → Judgement n wire major
-      (Takes (record {
+      (Ok (record {
         n = n + apart n wire;
         gap = ltb 1 (apart n wire);
         missed = missed_major n (n + apart n wire);
@@ -74,7 +74,7 @@ pub record Follows (n wire : ℕ) (major : Bool) (next : Next) : Type 0 where
   pub gap : next.gap ≡ missed_cycle n next.n
   pub missed : next.missed ≡ missed_major n next.n
 
-pub takes-follows : (n wire : ℕ) (major : Bool) (next : Next) → judged n wire major ≡ Takes next → Follows n wire major next
+pub takes-follows : (n wire : ℕ) (major : Bool) (next : Next) → judged n wire major ≡ Ok next → Follows n wire major next
 unfolding is_major
 takes-follows n wire major next e = by (judged n wire major) (judged-exactly n wire major) e
   where
@@ -85,7 +85,7 @@ takes-follows n wire major next e = by (judged n wire major) (judged-exactly n w
         decided (yes l) = lt-ltb 1 k l ∙ sym (lt-ltb (n + 1) (n + k) (omega arith))
         decided (no f) = le-ltb 1 k (omega arith) ∙ sym (le-ltb (n + 1) (n + k) (omega arith))
 
-    by : (v : Verdict) → Judgement n wire major v → v ≡ Takes next → Follows n wire major next
+    by : (v : Verdict) → Judgement n wire major v → v ≡ Ok next → Follows n wire major next
     by v (repeats a) q = let z : ◌≡◌ {A = ℕ} 0 1 = cc in absurd (omega arith)
     by v (stale a) q = let z : ◌≡◌ {A = ℕ} 0 1 = cc in absurd (omega arith)
     by v (ends a b c) q = let z : ◌≡◌ {A = ℕ} 0 1 = cc in absurd (omega arith)

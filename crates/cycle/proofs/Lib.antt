@@ -6,6 +6,7 @@ pub mod Quiet
 pub mod CalmHalls
 pub mod Halves
 pub mod Loops
+pub mod Made
 pub mod Maps
 pub mod BehindClosed
 pub mod BothWays

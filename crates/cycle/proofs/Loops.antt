@@ -1,5 +1,5 @@
 -- Loops: one turn, and the end, over plain values. Assumes nothing.
-use Rattle.std.proofs.Common.{◌≡◌, ℕ, ◌+◌, ◌-◌, ◌<◌, ◌≤◌, Bool, ◌||◌, List, get_or, set, ap, ◌∙◌, add-one, arith, w64, Fits}
+use Rattle.std.proofs.Common.{◌≡◌, ℕ, ◌+◌, ◌<◌, ◌≤◌, Bool, ◌||◌, List, get_or, set, ap, ◌∙◌, add-one, arith}
 use lib.Bits.{bit_or}
 use Rattle.bits.specs.Bit.{meets, any}
 use Rattle.cycle.specs.Size.{manifold_count}
@@ -10,16 +10,10 @@ use Rattle.cycle.specs.declared.map.Masks.{Masks}
 use Rattle.cycle.specs.declared.values.Requests.{Requests}
 use Rattle.cycle.proofs.Each.{each_next}
 
--- a place k below the end n: the next one is within it, nearer to it, and fits
+-- a place k below the end n: the next one is within it
 module _ {k n : ℕ} (h : k < n) where
   pub next-within : k + 1 ≤ n
   next-within = omega arith
-
-  pub next-nearer : n - (k + 1) < n - k
-  next-nearer = omega arith
-
-  pub next_fits : n ≤ 256 → Fits w64 (k + 1)
-  next_fits m = record { fits = omega arith }
 
 -- a loop that has come to its end n: what it kept of its place k holds of the end
 pub ended : {A : Type 0} (f : ℕ → A) {x : A} {k n : ℕ} → (k ≤ n) × (x ≡ f k) → n ≤ k → x ≡ f n

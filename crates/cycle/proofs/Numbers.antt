@@ -3,16 +3,17 @@ use Rattle.std.proofs.Common.{◌≡◌, ℕ, ◌+◌, ◌-◌, ◌*◌, ◌/◌
 use Rattle.bits.proofs.Yes.{T_of, of_T}
 use Rattle.cycle.specs.Size.{major_every, last_count, stale_from}
 use Rattle.cycle.specs.Numbers.{distance, is_major, missed_major, following, judged_at, judged}
-use Rattle.cycle.specs.declared.number.Verdict.TheVariants.{Takes, Refuses}
+use Rattle.cycle.specs.Numbers.{Verdict}
+use Rattle.std.specs.Prelude.{Ok, Err}
 use Rattle.cycle.specs.declared.answer.Answer.TheVariants.{Stale, Repeat, CountEnded, WrongKind}
 
 -- ---- by distance
 
-pub judged-repeat : (n wire : ℕ) (major : Bool) → distance n wire ≡ 0 → judged n wire major ≡ Refuses Repeat
+pub judged-repeat : (n wire : ℕ) (major : Bool) → distance n wire ≡ 0 → judged n wire major ≡ Err Repeat
 unfolding judged judged_at
 judged-repeat n wire major e = rw e
 
-pub judged-stale : (n wire : ℕ) (major : Bool) → stale_from ≤ distance n wire → judged n wire major ≡ Refuses Stale
+pub judged-stale : (n wire : ℕ) (major : Bool) → stale_from ≤ distance n wire → judged n wire major ≡ Err Stale
 unfolding judged judged_at
 judged-stale n wire major h = rw (ne_eqb (distance n wire) 0 (λ e. omega arith), le-ltb (distance n wire) stale_from h)
 
@@ -24,30 +25,30 @@ judged-follows n wire major p h = rw (ne_eqb (distance n wire) 0 (λ e. omega ar
 -- ---- neither stale nor a repeat
 
 module _ (n d : ℕ) (gap major : Bool) where
-  pub follows-ended : last_count < n + d → following n d gap major ≡ Refuses CountEnded
+  pub follows-ended : last_count < n + d → following n d gap major ≡ Err CountEnded
   unfolding following
   follows-ended h = rw (lt-ltb last_count (n + d) h)
 
-  pub follows-wrong : n + d ≤ last_count → is_major (n + d) ≡ not major → following n d gap major ≡ Refuses WrongKind
+  pub follows-wrong : n + d ≤ last_count → is_major (n + d) ≡ not major → following n d gap major ≡ Err WrongKind
   unfolding following
   follows-wrong h e = rw (le-ltb last_count (n + d) h, e) (kind major)
     where
       kind : (b : Bool)
-          → cond ((not b && not b) || (not (not b) && b))
-          (Refuses WrongKind) (Takes (record { n = n + d; gap = gap; missed = missed_major n (n + d) }))
-          ≡ Refuses WrongKind
+          → cond {A = Verdict} ((not b && not b) || (not (not b) && b))
+          (Err WrongKind) (Ok (record { n = n + d; gap = gap; missed = missed_major n (n + d) }))
+          ≡ Err WrongKind
       kind true = refl
       kind false = refl
 
   pub follows-right : n + d ≤ last_count → is_major (n + d) ≡ major
-      → following n d gap major ≡ Takes (record { n = n + d; gap = gap; missed = missed_major n (n + d) })
+      → following n d gap major ≡ Ok (record { n = n + d; gap = gap; missed = missed_major n (n + d) })
   unfolding following
   follows-right h e = rw (le-ltb last_count (n + d) h, e) (kind major)
     where
       kind : (b : Bool)
-          → cond ((b && not b) || (not b && b))
-          (Refuses WrongKind) (Takes (record { n = n + d; gap = gap; missed = missed_major n (n + d) }))
-          ≡ Takes (record { n = n + d; gap = gap; missed = missed_major n (n + d) })
+          → cond {A = Verdict} ((b && not b) || (not b && b))
+          (Err WrongKind) (Ok (record { n = n + d; gap = gap; missed = missed_major n (n + d) }))
+          ≡ Ok (record { n = n + d; gap = gap; missed = missed_major n (n + d) })
       kind true = refl
       kind false = refl
 

@@ -5,7 +5,7 @@ use Rattle.bits.proofs.Yes.{not-both, and-false}
 use Rattle.cycle.specs.Numbers.{is_major, missed_cycle, missed_major}
 use Rattle.cycle.specs.Jets.{JetRecord, path_lost, recovered, gapped, off_failure, valve_moved, remembered, reenabled, requested}
 use Rattle.cycle.specs.Jets.{off_shifted, is_bad, on_failure, kept, minor_steps, after_requests, major_steps, cycle, reached, run}
-use Rattle.cycle.specs.declared.jet.JetOverrides.{JetOverrides}
+use Rattle.cycle.specs.declared.slots.Overrides.{Overrides}
 use Rattle.cycle.specs.declared.jet.JetState.{JetState}
 use Rattle.cycle.proofs.CloseSteps.{path-cycle, minor-cycle, major-cycle}
 
@@ -80,8 +80,8 @@ minor-minded old r s apart =
     let same : x.over ≡ (recovered s).over = gapped-over (missed_cycle old r.n) (missed_major old r.n) (recovered s) in
     let kept : y.over ≡ x.over = off-failure-over r.commanded r.pressure x in
     valve-minded y.standing.valve r.valve y
-    (ap (λ (o : JetOverrides). o.inhibit && o.reenable) (kept ∙ same) ∙ recovered-apart s apart)
-    (λ e. off-failure-free r.commanded r.pressure x (ap (λ (o : JetOverrides). o.reenable) (sym kept) ∙ e))
+    (ap (λ (o : Overrides Bool). o.inhibit && o.reenable) (kept ∙ same) ∙ recovered-apart s apart)
+    (λ e. off-failure-free r.commanded r.pressure x (ap (λ (o : Overrides Bool). o.reenable) (sym kept) ∙ e))
 
 -- ---- steps 5 to 8
 

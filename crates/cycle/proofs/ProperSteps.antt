@@ -13,8 +13,8 @@ use Rattle.cycle.specs.Proper.{ProperHall}
 use Rattle.cycle.specs.Inside.Drops.{drops_close}
 use Rattle.cycle.specs.declared.hall.Hall.{Hall}
 use Rattle.cycle.specs.declared.hall.Stepped.{Stepped}
-use Rattle.cycle.specs.declared.number.Verdict.{Verdict}
-use Rattle.cycle.specs.declared.number.Verdict.TheVariants.{Takes, Refuses}
+use Rattle.cycle.specs.Numbers.{Verdict}
+use Rattle.std.specs.Prelude.{Ok, Err}
 use Rattle.cycle.proofs.Verdicts.{verdict-follows, verdict-untaken}
 use Rattle.cycle.proofs.HallAgrees.{jet-after, close-after, number-after}
 
@@ -23,10 +23,10 @@ module _ (r : Record) (h : Hall) (p : ProperHall h) (s i : ℕ) (l : s < string_
   abbrev says : ℕ → ℕ → jets.JetRecord
   says n j = jet_record n s i j r
 
-  abbrev JetSteps : ℕ → Stepped → Type 0
+  abbrev JetSteps : ℕ → Stepped Hall → Type 0
   JetSteps j x = jet_of i j (string_of x.hall s) ≡ jets.cycle h.n (says x.hall.n j) (jet_of i j (string_of h s))
 
-  abbrev CloseSteps : Stepped → Type 0
+  abbrev CloseSteps : Stepped Hall → Type 0
   CloseSteps x =
       bit i (string_of x.hall s).close
       ≡ ((bit i (string_of h s).close && not (drops_close x.hall.n s i r))
@@ -39,10 +39,10 @@ module _ (r : Record) (h : Hall) (p : ProperHall h) (s i : ℕ) (l : s < string_
     where
       by : (v : Verdict) → verdict_on h.n h.masks r ≡ v → is_taken (stepped_by v r h).answer ≡ true
           → JetSteps j (stepped_by v r h)
-      by (Takes next) e u =
+      by (Ok next) e u =
           jet-after h p (common r).wire next s l r (verdict-follows h.n h.masks r next e) i j below stands
           ∙ ap (λ (n : ℕ). jets.cycle h.n (says n j) (jet_of i j (string_of h s))) (sym (number-after r next h))
-      by (Refuses a) e u = not-both (is_taken a) u (verdict-untaken h.n h.masks r a e)
+      by (Err a) e u = not-both (is_taken a) u (verdict-untaken h.n h.masks r a e)
 
   pub stepped-close : is_taken (stepped r h).answer ≡ true → CloseSteps (stepped r h)
   unfolding stepped
@@ -50,7 +50,7 @@ module _ (r : Record) (h : Hall) (p : ProperHall h) (s i : ℕ) (l : s < string_
     where
       by : (v : Verdict) → verdict_on h.n h.masks r ≡ v → is_taken (stepped_by v r h).answer ≡ true
           → CloseSteps (stepped_by v r h)
-      by (Takes next) e u =
+      by (Ok next) e u =
           close-after h p (common r).wire next s l r (verdict-follows h.n h.masks r next e) i below
           ∙ ap
           (λ (n : ℕ).
@@ -58,4 +58,4 @@ module _ (r : Record) (h : Hall) (p : ProperHall h) (s i : ℕ) (l : s < string_
           || any jet_count
           (λ j. bit j (get_or (masks_of h.masks s) i 0) && jets.asks_at h.n (says n j) (jet_of i j (string_of h s))))
           (sym (number-after r next h))
-      by (Refuses a) e u = not-both (is_taken a) u (verdict-untaken h.n h.masks r a e)
+      by (Err a) e u = not-both (is_taken a) u (verdict-untaken h.n h.masks r a e)

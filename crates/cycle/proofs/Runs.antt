@@ -23,8 +23,8 @@ use Rattle.cycle.specs.Inside.Runs.{hall_after, takes, TakenRecord, taken_of, je
 use Rattle.cycle.specs.declared.jet.JetState.{JetState}
 use Rattle.cycle.specs.declared.map.Masks.{Masks}
 use Rattle.cycle.specs.declared.number.Next.{Next}
-use Rattle.cycle.specs.declared.number.Verdict.{Verdict}
-use Rattle.cycle.specs.declared.number.Verdict.TheVariants.{Takes, Refuses}
+use Rattle.cycle.specs.Numbers.{Verdict}
+use Rattle.std.specs.Prelude.{Ok, Err}
 use Rattle.cycle.specs.declared.hall.Hall.{Hall}
 use Rattle.cycle.specs.declared.hall.Stepped.{Stepped}
 use Rattle.cycle.proofs.Judgements.{Follows}
@@ -80,7 +80,7 @@ run-fresh masks fit accepted = record {
 -- ---- one record
 
 -- the newest taken record first
-abbrev grown : Bool → Stepped → Record → List TakenRecord → List TakenRecord
+abbrev grown : Bool → Stepped Hall → Record → List TakenRecord → List TakenRecord
 grown b x r ts = cond b (record { n = x.hall.n; values = r } ∷ ts) ts
 
 module _ (masks : List Masks) (h : Hall) (ts : List TakenRecord) (run : Run masks h ts) (r : Record) where
@@ -159,11 +159,11 @@ run_step masks h ts run r = by (verdict_on h.n h.masks r) refl
   where
     by : (v : Verdict) → verdict_on h.n h.masks r ≡ v
         → Run masks (stepped_by v r h).hall (grown (is_taken (stepped_by v r h).answer) (stepped_by v r h) r ts)
-    by (Takes next) e =
+    by (Ok next) e =
         let f : Follows h.n (common r).wire (major_kind r) next = verdict-follows h.n h.masks r next e in
         subst (λ (n : ℕ). Run masks (taken r next h) (record { n = n; values = r } ∷ ts)) (sym (number-after r next h))
         (run-taken masks h ts run r next f (taken-proper r next h run.proper))
-    by (Refuses a) e = rw (verdict-untaken h.n h.masks r a e) run
+    by (Err a) e = rw (verdict-untaken h.n h.masks r a e) run
 
 -- ---- any list of records
 

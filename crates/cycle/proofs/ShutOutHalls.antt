@@ -9,8 +9,8 @@ use Rattle.cycle.specs.Proper.{ProperHall}
 use Rattle.cycle.specs.ShutOut.{ShutOutJet, ShutOutHall}
 use Rattle.cycle.specs.declared.hall.Hall.{Hall}
 use Rattle.cycle.specs.declared.map.Masks.{Masks}
-use Rattle.cycle.specs.declared.number.Verdict.{Verdict}
-use Rattle.cycle.specs.declared.number.Verdict.TheVariants.{Takes, Refuses}
+use Rattle.cycle.specs.Numbers.{Verdict}
+use Rattle.std.specs.Prelude.{Ok, Err}
 use Rattle.cycle.proofs.Verdicts.{verdict-follows}
 use Rattle.cycle.proofs.HallAgrees.{jet-after, map-after}
 use Rattle.cycle.proofs.Runs.{run-fresh}
@@ -26,9 +26,9 @@ unfolding stepped
 stepped-shut-out r h p c = by (verdict_on h.n h.masks r) refl
   where
     by : (v : Verdict) → verdict_on h.n h.masks r ≡ v → ShutOutHall (stepped_by v r h).hall
-    by (Takes next) e s i j l below stands =
+    by (Ok next) e s i j l below stands =
         let here : InMask (masks_of h.masks s) i j = rw (sym (map-after r next h)) stands in
         subst ShutOutJet
         (sym (jet-after h p (common r).wire next s l r (verdict-follows h.n h.masks r next e) i j below here))
         (cycle-shut-out h.n _ _ (c s i j l below here))
-    by (Refuses a) e s i j l below stands = c s i j l below stands
+    by (Err a) e s i j l below stands = c s i j l below stands

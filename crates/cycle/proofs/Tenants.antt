@@ -14,8 +14,8 @@ use Rattle.cycle.specs.Proper.{ProperHall}
 use Rattle.cycle.specs.Tenants.{SameValues, SameManifold}
 use Rattle.cycle.specs.declared.hall.Hall.{Hall}
 use Rattle.cycle.specs.declared.map.Masks.{Masks}
-use Rattle.cycle.specs.declared.number.Verdict.{Verdict}
-use Rattle.cycle.specs.declared.number.Verdict.TheVariants.{Takes, Refuses}
+use Rattle.cycle.specs.Numbers.{Verdict}
+use Rattle.std.specs.Prelude.{Ok, Err}
 use Rattle.cycle.proofs.HallAgrees.{map-after}
 use Rattle.cycle.proofs.ProperSteps.{stepped-jet, stepped-close}
 
@@ -44,8 +44,8 @@ unfolding stepped
 stepped-map r h = by (verdict_on h.n h.masks r)
   where
     by : (v : Verdict) → (stepped_by v r h).hall.masks ≡ h.masks
-    by (Takes next) = map-after r next h
-    by (Refuses a) = refl
+    by (Ok next) = map-after r next h
+    by (Err a) = refl
 
 module _ (h k : Hall) (ph : ProperHall h) (pk : ProperHall k) (s i : ℕ) (l : s < string_count) (below : i < manifold_count)
     (same : h.n ≡ k.n) (a b : Record) (led : (stepped a h).hall.n ≡ (stepped b k).hall.n) where

@@ -12,8 +12,8 @@ use Rattle.cycle.specs.Hall.{sample_of, string_of, taken, verdict_on, stepped_by
 use Rattle.cycle.specs.Turns.{TurnByTurn, Shaped, before_turns}
 use Rattle.cycle.specs.declared.hall.Hall.{Hall}
 use Rattle.cycle.specs.declared.number.Next.{Next}
-use Rattle.cycle.specs.declared.number.Verdict.{Verdict}
-use Rattle.cycle.specs.declared.number.Verdict.TheVariants.{Takes, Refuses}
+use Rattle.cycle.specs.Numbers.{Verdict}
+use Rattle.std.specs.Prelude.{Ok, Err}
 use Rattle.cycle.specs.declared.string.StringState.{StringState}
 use Rattle.cycle.specs.declared.values.Minor.{Minor}
 use Rattle.cycle.proofs.Judgements.{Follows}
@@ -68,7 +68,7 @@ module _ (h : Hall) (shaped : Shaped manifold_count h) (r : Minor) (s : ℕ) (l 
     where
       by : (v : Verdict) → verdict_on h.n h.masks (minor r) ≡ v → is_taken (stepped_by v (minor r) h).answer ≡ true
           → Turns (stepped_by v (minor r) h).hall.n (string_of (stepped_by v (minor r) h).hall s)
-      by (Takes next) e u =
+      by (Ok next) e u =
           rw (number-after (minor r) next h, taken-string next (verdict-follows h.n h.masks (minor r) next e))
           (turn-by-turn manifold_count (masks_of h.masks s) (sample_of r s).valves (before_turns h r next.n s) (before-long next.n))
-      by (Refuses a) e u = not-both (is_taken a) u (verdict-untaken h.n h.masks (minor r) a e)
+      by (Err a) e u = not-both (is_taken a) u (verdict-untaken h.n h.masks (minor r) a e)

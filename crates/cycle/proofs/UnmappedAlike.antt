@@ -19,8 +19,8 @@ use Rattle.cycle.specs.declared.banks.Bank.{Bank}
 use Rattle.cycle.specs.declared.hall.Hall.{Hall}
 use Rattle.cycle.specs.declared.map.Masks.{Masks}
 use Rattle.cycle.specs.declared.number.Next.{Next}
-use Rattle.cycle.specs.declared.number.Verdict.{Verdict}
-use Rattle.cycle.specs.declared.number.Verdict.TheVariants.{Takes, Refuses}
+use Rattle.cycle.specs.Numbers.{Verdict}
+use Rattle.std.specs.Prelude.{Ok, Err}
 use Rattle.cycle.specs.declared.string.StringState.{StringState}
 use Rattle.cycle.specs.declared.values.Temperatures.{Temperatures}
 use Rattle.cycle.specs.declared.values.Requests.{Requests}
@@ -143,5 +143,5 @@ alike-step h a b alike =
     ap (λ (v : Verdict). stepped_by v a h) (verdict-same h.n h.masks a b alike) ∙ by (verdict_on h.n h.masks b)
   where
     by : (v : Verdict) → stepped_by v a h ≡ stepped_by v b h
-    by (Takes next) = ap (λ (x : Hall). record { answer = Taken; hall = x }) (taken-same h next a b alike)
-    by (Refuses x) = refl
+    by (Ok next) = ap (λ (x : Hall). record { answer = Taken; hall = x }) (taken-same h next a b alike)
+    by (Err x) = refl

@@ -13,8 +13,8 @@ use Rattle.cycle.specs.Unmapped.{Unmapped, NoneStanding, NoneOf, UnmappedNone}
 use Rattle.cycle.specs.declared.hall.Hall.{Hall}
 use Rattle.cycle.specs.declared.map.Masks.{Masks}
 use Rattle.cycle.specs.declared.number.Next.{Next}
-use Rattle.cycle.specs.declared.number.Verdict.{Verdict}
-use Rattle.cycle.specs.declared.number.Verdict.TheVariants.{Takes, Refuses}
+use Rattle.cycle.specs.Numbers.{Verdict}
+use Rattle.std.specs.Prelude.{Ok, Err}
 use Rattle.cycle.specs.declared.string.StringState.{StringState}
 use Rattle.cycle.specs.declared.values.Sample.{Sample}
 use Rattle.cycle.specs.declared.values.Temperatures.{Temperatures}
@@ -99,5 +99,5 @@ unfolding stepped
 stepped-none r h p = by (verdict_on h.n h.masks r)
   where
     by : (v : Verdict) → AllNone (stepped_by v r h).hall
-    by (Takes next) = taken_none r next h p
-    by (Refuses a) = p
+    by (Ok next) = taken_none r next h p
+    by (Err a) = p

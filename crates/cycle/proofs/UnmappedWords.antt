@@ -9,7 +9,7 @@ use Rattle.cycle.specs.Map.{mapped}
 use Rattle.cycle.specs.Words.{off_failure, manifolds, gapped, recovered, jet_leaks, leak_word, bad_jets, bad_of, requested}
 use Rattle.cycle.specs.Words.{with_off, with_fail, off_fails, on_failure, rechecked, kept, path_lost}
 use Rattle.cycle.specs.Words.{behind_closed, minor_steps, major_steps, minor_cycle, major_cycle}
-use Rattle.cycle.specs.declared.string.OffSlots.{OffSlots}
+use Rattle.cycle.specs.declared.slots.OffSlots.{OffSlots}
 use Rattle.cycle.specs.declared.string.StringState.{StringState}
 use Rattle.cycle.specs.declared.values.Sample.{Sample}
 use Rattle.cycle.specs.declared.values.Temperatures.{Temperatures}
@@ -33,7 +33,7 @@ leak-same t u j e = by (ltb j jet_count) refl
 -- step 3, by its newest slot
 abbrev off_newest : ℕ → StringState → StringState
 off_newest newest s =
-    let x : OffSlots = record { newest = newest; older = s.off.newest; oldest = s.off.older } in
+    let x : OffSlots ℕ = record { newest = newest; older = s.off.newest; oldest = s.off.older } in
     with_off x (with_fail (off_fails x s) s)
 
 -- ---- a string's cycle

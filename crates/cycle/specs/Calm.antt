@@ -11,7 +11,7 @@ use Rattle.cycle.specs.Banks.{weighed_all}
 use Rattle.cycle.specs.Hall.{no_temperatures, no_requests, past_string, sample_of, string_of}
 use Rattle.cycle.specs.declared.hall.Hall.{Hall}
 use Rattle.cycle.specs.declared.map.Masks.{Masks}
-use Rattle.cycle.specs.declared.string.OnSlots.{OnSlots}
+use Rattle.cycle.specs.declared.slots.OnSlots.{OnSlots}
 use Rattle.cycle.specs.declared.string.StringState.{StringState}
 use Rattle.cycle.specs.declared.values.Sample.{Sample}
 use Rattle.cycle.specs.declared.values.Minor.{Minor}
@@ -53,7 +53,7 @@ all_quiet r h =
 
 -- steps 5 to 8 find nothing in one string but what its temperatures say: no on slot has a jet, no mapped jet is asked for, no set close
 -- bit is to be dropped, and no mapped jet is driven without a command
-unfoldable pub finds_none : ℕ → Sample → Requests → OnSlots → ℕ → Bool
+unfoldable pub finds_none : ℕ → Sample → Requests → OnSlots ℕ → ℕ → Bool
 finds_none jets x q on close =
     (on.newest == 0)
     && (on.older == 0

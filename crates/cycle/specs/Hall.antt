@@ -11,8 +11,8 @@ use Rattle.cycle.specs.Banks.{no_bank, weighed_all}
 use Rattle.cycle.specs.Records.{Record, minor, major, major_kind, common}
 use Rattle.cycle.specs.declared.answer.Answer.TheVariants.{Taken, MapRefused, BothWays}
 use Rattle.cycle.specs.declared.number.Next.{Next}
-use Rattle.cycle.specs.declared.number.Verdict.{Verdict}
-use Rattle.cycle.specs.declared.number.Verdict.TheVariants.{Takes, Refuses}
+use Rattle.cycle.specs.Numbers.{Verdict}
+use Rattle.std.specs.Prelude.{Ok, Err}
 use Rattle.cycle.specs.declared.map.Masks.{Masks}
 use Rattle.cycle.specs.declared.string.Standing.{Standing}
 use Rattle.cycle.specs.declared.string.StringState.{StringState}
@@ -62,7 +62,7 @@ fresh_hall masks = record
     { n = 0; masks = masks; strings = replicate string_count fresh; banks = replicate module_count no_bank }
 
 -- starting over a map: 6 "if two masks of one string overlap", and then "a fresh one over the empty map"
-unfoldable pub started : List Masks → Stepped
+unfoldable pub started : List Masks → Stepped Hall
 started masks =
     cond (refused string_count masks) (record { answer = MapRefused; hall = fresh_hall (replicate string_count no_masks) })
     (record { answer = Taken; hall = fresh_hall masks })
@@ -118,17 +118,17 @@ record_both_ways masks (major r) = both_ways string_count masks r.requests
 
 -- "answer 7, tested after 4": only a record that its number lets be taken gets it
 unfoldable pub unless_both_ways : Bool → Verdict → Verdict
-unless_both_ways both (Takes next) = cond both (Refuses BothWays) (Takes next)
-unless_both_ways both (Refuses a) = Refuses a
+unless_both_ways both (Ok next) = cond both (Err BothWays) (Ok next)
+unless_both_ways both (Err a) = Err a
 
 -- the verdict on a record at the cycle number n, over a map
 unfoldable pub verdict_on : ℕ → List Masks → Record → Verdict
 verdict_on n masks r = unless_both_ways (record_both_ways masks r) (judged n (common r).wire (major_kind r))
 
 -- by the verdict: "stepped", or "as before"
-abbrev pub stepped_by : Verdict → Record → Hall → Stepped
-stepped_by (Takes next) r h = record { answer = Taken; hall = taken r next h }
-stepped_by (Refuses a) r h = record { answer = a; hall = h }
+abbrev pub stepped_by : Verdict → Record → Hall → Stepped Hall
+stepped_by (Ok next) r h = record { answer = Taken; hall = taken r next h }
+stepped_by (Err a) r h = record { answer = a; hall = h }
 
-unfoldable pub stepped : Record → Hall → Stepped
+unfoldable pub stepped : Record → Hall → Stepped Hall
 stepped r h = stepped_by (verdict_on h.n h.masks r) r h

@@ -4,9 +4,9 @@ use Rattle.std.specs.Prelude.{ℕ, Bool, true, false, cond, not, ◌&&◌, ◌||
 use Rattle.cycle.specs.Numbers.{is_major, missed_cycle, missed_major}
 use Rattle.cycle.specs.Leak.{leaks}
 use Rattle.cycle.specs.declared.jet.JetStanding.{JetStanding}
-use Rattle.cycle.specs.declared.jet.JetOff.{JetOff}
-use Rattle.cycle.specs.declared.jet.JetOn.{JetOn}
-use Rattle.cycle.specs.declared.jet.JetOverrides.{JetOverrides}
+use Rattle.cycle.specs.declared.slots.OffSlots.{OffSlots}
+use Rattle.cycle.specs.declared.slots.OnSlots.{OnSlots}
+use Rattle.cycle.specs.declared.slots.Overrides.{Overrides}
 use Rattle.cycle.specs.declared.jet.JetState.{JetState}
 
 -- What a taken record says of one jet: the cycle number it leads to, its string's path bit, the jet's commanded, pressure and driver bits
@@ -63,13 +63,13 @@ with_standing x s = record { standing = x; good = s.good; off = s.off; on = s.on
 abbrev pub with_good : JetStanding → JetState → JetState
 with_good x s = record { standing = s.standing; good = x; off = s.off; on = s.on; over = s.over; lost = s.lost }
 
-abbrev pub with_off : JetOff → JetState → JetState
+abbrev pub with_off : OffSlots Bool → JetState → JetState
 with_off x s = record { standing = s.standing; good = s.good; off = x; on = s.on; over = s.over; lost = s.lost }
 
-abbrev pub with_on : JetOn → JetState → JetState
+abbrev pub with_on : OnSlots Bool → JetState → JetState
 with_on x s = record { standing = s.standing; good = s.good; off = s.off; on = x; over = s.over; lost = s.lost }
 
-abbrev pub with_over : JetOverrides → JetState → JetState
+abbrev pub with_over : Overrides Bool → JetState → JetState
 with_over x s = record { standing = s.standing; good = s.good; off = s.off; on = s.on; over = x; lost = s.lost }
 
 abbrev pub with_lost : Bool → JetState → JetState
@@ -78,10 +78,10 @@ with_lost x s = record { standing = s.standing; good = s.good; off = s.off; on =
 abbrev pub with_fail : Bool → JetState → JetState
 with_fail x s = with_standing (record { fail = x; valve = s.standing.valve; saved = s.standing.saved }) s
 
-abbrev pub no_off : JetOff
+abbrev pub no_off : OffSlots Bool
 no_off = record { newest = false; older = false; oldest = false }
 
-abbrev pub no_on : JetOn
+abbrev pub no_on : OnSlots Bool
 no_on = record { newest = false; older = false; recheck = false }
 
 -- "Fresh: every word 0, no path fault remembered, .. good copy the same." 02, order 7: "At fresh all eight are remembered as open."
@@ -119,11 +119,11 @@ unfoldable pub gapped : Bool → Bool → JetState → JetState
 gapped gap missed s = on_cleared missed (off_cleared gap s)
 
 -- 3. Off failure (000, 2.2.4): "Three slots shift; the newest is 'C and not P'."
-abbrev pub off_shifted : Bool → Bool → JetOff → JetOff
+abbrev pub off_shifted : Bool → Bool → OffSlots Bool → OffSlots Bool
 off_shifted commanded pressure x = record { newest = commanded && not pressure; older = x.newest; oldest = x.older }
 
 -- 3. "Fail gains the jets that stand in all three, then loses every jet whose re-enable is in force."
-abbrev pub off_fails : JetOff → JetState → Bool
+abbrev pub off_fails : OffSlots Bool → JetState → Bool
 off_fails x s = (s.standing.fail || (x.newest && x.older && x.oldest)) && not s.over.reenable
 
 unfoldable pub off_failure : Bool → Bool → JetState → JetState
@@ -189,7 +189,7 @@ asks bad s = s.on.recheck && bad && not s.over.reenable
 
 -- 7. On failure (2.2.5): "Two slots shift, the newest is the bad jets. Jets in both, not re-enabled, join the fail word and are the new
 -- recheck word."
-abbrev pub on_shifted : Bool → JetState → JetOn
+abbrev pub on_shifted : Bool → JetState → OnSlots Bool
 on_shifted bad s = record { newest = bad; older = s.on.newest; recheck = bad && s.on.newest && not s.over.reenable }
 
 unfoldable pub on_failure : Bool → JetState → JetState

@@ -1,9 +1,13 @@
 -- The cycle number. 01, "Jets, strings, manifolds" and "Which answer a record gets". Assumes nothing.
-use Rattle.std.specs.Prelude.{ℕ, ◌+◌, ◌-◌, ◌/◌, ◌%◌, Bool, cond, not, ◌&&◌, ◌||◌, ◌==◌, nat_lt}
+use Rattle.std.specs.Prelude.{ℕ, ◌+◌, ◌-◌, ◌/◌, ◌%◌, Bool, cond, not, ◌&&◌, ◌||◌, ◌==◌, nat_lt, Result, Ok, Err}
 use Rattle.cycle.specs.Size.{major_every, last_count, wire_span, stale_from}
+use Rattle.cycle.specs.declared.answer.Answer.{Answer}
 use Rattle.cycle.specs.declared.answer.Answer.TheVariants.{Stale, Repeat, CountEnded, WrongKind}
-use Rattle.cycle.specs.declared.number.Verdict.{Verdict}
-use Rattle.cycle.specs.declared.number.Verdict.TheVariants.{Takes, Refuses}
+use Rattle.cycle.specs.declared.number.Next.{Next}
+
+-- what a record that is taken leads to, or the answer that refuses it
+abbrev pub Verdict : Type 0
+Verdict = Result Next Answer
 
 -- "d is the wire cycle less the lowest 16 bits of n, modulo 65,536"
 abbrev pub distance : ℕ → ℕ → ℕ
@@ -28,12 +32,12 @@ wrong_kind major new = (is_major new && not major) || (not (is_major new) && maj
 -- a record that is neither stale nor a repeat: 3 if n + d exceeds the last count, then 4, else its number lets it be taken
 unfoldable pub following : ℕ → ℕ → Bool → Bool → Verdict
 following n d gap major =
-    cond (nat_lt last_count (n + d)) (Refuses CountEnded)
-    (cond (wrong_kind major (n + d)) (Refuses WrongKind) (Takes (record { n = n + d; gap = gap; missed = missed_major n (n + d) })))
+    cond (nat_lt last_count (n + d)) (Err CountEnded)
+    (cond (wrong_kind major (n + d)) (Err WrongKind) (Ok (record { n = n + d; gap = gap; missed = missed_major n (n + d) })))
 
 -- the verdict by the distance d: 2 if it is 0, 1 if it is 32,768 or more
 unfoldable pub judged_at : ℕ → ℕ → Bool → Verdict
-judged_at d n major = cond (d == 0) (Refuses Repeat) (cond (nat_lt d stale_from) (following n d (nat_lt 1 d) major) (Refuses Stale))
+judged_at d n major = cond (d == 0) (Err Repeat) (cond (nat_lt d stale_from) (following n d (nat_lt 1 d) major) (Err Stale))
 
 -- the verdict by its number on a record, minor or major, with this wire cycle at the cycle number n
 unfoldable pub judged : ℕ → ℕ → Bool → Verdict

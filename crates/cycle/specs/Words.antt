@@ -6,9 +6,9 @@ use Rattle.cycle.specs.Size.{jet_count, manifold_count, all_open}
 use Rattle.cycle.specs.Leak.{leaks}
 use Rattle.cycle.specs.Map.{mapped}
 use Rattle.cycle.specs.declared.string.Standing.{Standing}
-use Rattle.cycle.specs.declared.string.OffSlots.{OffSlots}
-use Rattle.cycle.specs.declared.string.OnSlots.{OnSlots}
-use Rattle.cycle.specs.declared.string.Overrides.{Overrides}
+use Rattle.cycle.specs.declared.slots.OffSlots.{OffSlots}
+use Rattle.cycle.specs.declared.slots.OnSlots.{OnSlots}
+use Rattle.cycle.specs.declared.slots.Overrides.{Overrides}
 use Rattle.cycle.specs.declared.string.StringState.{StringState}
 use Rattle.cycle.specs.declared.string.AtManifold.{AtManifold}
 use Rattle.cycle.specs.declared.values.Sample.{Sample}
@@ -22,13 +22,13 @@ with_standing x s = record { standing = x; good = s.good; off = s.off; on = s.on
 abbrev pub with_good : Standing → StringState → StringState
 with_good x s = record { standing = s.standing; good = x; off = s.off; on = s.on; over = s.over; close = s.close; lost = s.lost }
 
-abbrev pub with_off : OffSlots → StringState → StringState
+abbrev pub with_off : OffSlots ℕ → StringState → StringState
 with_off x s = record { standing = s.standing; good = s.good; off = x; on = s.on; over = s.over; close = s.close; lost = s.lost }
 
-abbrev pub with_on : OnSlots → StringState → StringState
+abbrev pub with_on : OnSlots ℕ → StringState → StringState
 with_on x s = record { standing = s.standing; good = s.good; off = s.off; on = x; over = s.over; close = s.close; lost = s.lost }
 
-abbrev pub with_over : Overrides → StringState → StringState
+abbrev pub with_over : Overrides ℕ → StringState → StringState
 with_over x s = record { standing = s.standing; good = s.good; off = s.off; on = s.on; over = x; close = s.close; lost = s.lost }
 
 abbrev pub with_close : ℕ → StringState → StringState
@@ -40,10 +40,10 @@ with_lost x s = record { standing = s.standing; good = s.good; off = s.off; on =
 abbrev pub with_fail : ℕ → StringState → StringState
 with_fail x s = with_standing (record { fail = x; valves = s.standing.valves; saved = s.standing.saved }) s
 
-abbrev pub no_off : OffSlots
+abbrev pub no_off : OffSlots ℕ
 no_off = record { newest = 0; older = 0; oldest = 0 }
 
-abbrev pub no_on : OnSlots
+abbrev pub no_on : OnSlots ℕ
 no_on = record { newest = 0; older = 0; recheck = 0 }
 
 -- Fresh
@@ -79,10 +79,10 @@ unfoldable pub gapped : Bool → Bool → StringState → StringState
 gapped gap missed s = on_cleared missed (off_cleared gap s)
 
 -- 3. Off failure
-abbrev pub off_shifted : ℕ → ℕ → OffSlots → OffSlots
+abbrev pub off_shifted : ℕ → ℕ → OffSlots ℕ → OffSlots ℕ
 off_shifted commanded pressure x = record { newest = without commanded pressure; older = x.newest; oldest = x.older }
 
-abbrev pub off_fails : OffSlots → StringState → ℕ
+abbrev pub off_fails : OffSlots ℕ → StringState → ℕ
 off_fails x s = without (bit_or s.standing.fail (bit_and (bit_and x.newest x.older) x.oldest)) s.over.reenable
 
 unfoldable pub off_failure : ℕ → ℕ → StringState → StringState
@@ -138,7 +138,7 @@ behind_closed (suc i) masks valves = bit_or (behind_closed i masks valves) (cond
 
 -- 5. Requests, those that are heeded: where a jet is named both ways, which no taken record does, the inhibit decides; the close bits of
 -- `drop` go
-abbrev pub overridden : ℕ → ℕ → Overrides → Overrides
+abbrev pub overridden : ℕ → ℕ → Overrides ℕ → Overrides ℕ
 overridden inhibit reenable x = record
     { inhibit = bit_or (without x.inhibit reenable) inhibit; reenable = without (bit_or x.reenable reenable) inhibit }
 
@@ -170,7 +170,7 @@ unfoldable pub rechecked : ℕ → List ℕ → ℕ → StringState → StringSt
 rechecked m masks bad s = with_close (bit_or s.close (close_bits m masks s.on.recheck (without bad s.over.reenable))) s
 
 -- 7. On failure
-abbrev pub on_shifted : ℕ → StringState → OnSlots
+abbrev pub on_shifted : ℕ → StringState → OnSlots ℕ
 on_shifted bad s = record { newest = bad; older = s.on.newest; recheck = without (bit_and bad s.on.newest) s.over.reenable }
 
 unfoldable pub on_failure : ℕ → StringState → StringState

@@ -2,7 +2,7 @@
 ghost use Rattle.std.specs.Prelude.{◌≡◌};
 ghost use Rattle.cycle.specs.Answers.{is_taken, number_of};
 
-#[derive(Clone, Copy)]
+#[derive(Clone, Copy, Debug, PartialEq, Eq)]
 pub enum Answer {
     Taken,
     Stale,
@@ -38,16 +38,6 @@ impl Answer {
     pub fn is_taken(self) -> bool
         ensures { result ≡ is_taken self }
     {
-        match self {
-            Answer::Taken => true,
-            Answer::Stale => false,
-            Answer::Repeat => false,
-            Answer::CountEnded => false,
-            Answer::WrongKind => false,
-            Answer::OutboxShort => false,
-            Answer::MapRefused => false,
-            Answer::BothWays => false,
-            Answer::NothingSettled => false,
-        }
+        self == Answer::Taken
     }
 }

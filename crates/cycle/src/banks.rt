@@ -8,7 +8,7 @@ use crate::values::Quantities;
 
 // What is reported of a module: out of balance, the oxidizer is the lesser, the lesser quantity, and fuel less oxidizer, a signed number
 // in two's complement.
-#[derive(Clone, Copy)]
+#[derive(Clone, Copy, Default)]
 pub struct Bank {
     pub unbalanced: bool,
     pub oxidizer: bool,
@@ -21,12 +21,7 @@ impl Bank {
     pub fn unknown() -> Bank
         ensures { result ≡ no_bank }
     {
-        Bank {
-            unbalanced: false,
-            oxidizer: false,
-            lesser: 0,
-            difference: 0,
-        }
+        Bank::default()
     }
 }
 
@@ -34,7 +29,7 @@ impl Bank {
 fn fuel_less_oxidizer(q: Quantities) -> u16
     ensures { result ≡ fuel_less_oxidizer q }
 {
-    std::num::wrapping_sub_u16(q.fuel, q.oxidizer)
+    q.fuel.wrapping_sub(q.oxidizer)
 }
 
 // One module's two quantities compared.
@@ -47,28 +42,24 @@ fn weighed(q: Quantities) -> Bank
             unbalanced: MOST_APART < q.fuel - q.oxidizer,
             oxidizer: true,
             lesser: q.oxidizer,
-            difference: difference,
+            difference,
         }
     } else {
         Bank {
             unbalanced: MOST_APART < q.oxidizer - q.fuel,
             oxidizer: false,
             lesser: q.fuel,
-            difference: difference,
+            difference,
         }
     }
 }
 
 // All modules, each compared anew.
-pub fn weighed_all(banks: [Bank; MODULES], q: [Quantities; MODULES]) -> [Bank; MODULES]
+pub fn weighed_all(mut banks: [Bank; MODULES], q: [Quantities; MODULES]) -> [Bank; MODULES]
     ensures { result ≡ weighed_all module_count q banks }
 {
-    let mut next = banks;
-    let mut m: usize = 0;
-    while m < MODULES {
-        let pair = q[m];
-        next[m] = weighed(pair);
-        m += 1;
+    for m in 0..MODULES {
+        banks[m] = weighed(q[m]);
     }
-    next
+    banks
 }

@@ -5,7 +5,8 @@ ghost use Rattle.cycle.specs.Size.{string_count};
 ghost use Rattle.cycle.specs.Calm.{calm, all_calm, quiet, finds_none};
 
 use crate::size::STRINGS;
-use crate::string::{OnSlots, StringState};
+use crate::slots::OnSlots;
+use crate::string::StringState;
 use crate::values::{Requests, Sample};
 use bits::without;
 
@@ -15,9 +16,8 @@ impl StringState {
         ensures { result ≡ calm self }
     {
         let off = self.off;
-        let over = self.over;
         let fail = self.standing.fail;
-        let settled = fail == (without(fail, over.reenable) | over.inhibit);
+        let settled = fail == (without(fail, self.over.reenable) | self.over.inhibit);
         !self.lost & ((off.newest == 0) & ((off.older == 0) & ((off.oldest == 0) & settled)))
     }
 
@@ -34,19 +34,16 @@ impl StringState {
 pub fn all_calm(strings: [StringState; STRINGS]) -> bool
     ensures { result ≡ all_calm string_count strings }
 {
-    let mut s: usize = 0;
-    while s < STRINGS {
-        let string = strings[s];
+    for string in &strings {
         if !string.is_calm() {
             return false;
         }
-        s += 1;
     }
     true
 }
 
 // Do steps 5 to 8 find nothing in one string but what its temperatures say, where these jets are mapped?
-pub fn finds_none(on: OnSlots, close: u32, mapped: u32, sample: Sample, q: Requests) -> bool
+pub fn finds_none(on: OnSlots<u32>, close: u32, mapped: u32, sample: Sample, q: Requests) -> bool
     ensures { result ≡ finds_none mapped sample q on close }
 {
     let none_bad = without(mapped & sample.driver, sample.commanded) == 0;

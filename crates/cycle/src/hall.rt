@@ -9,12 +9,13 @@ ghost use Rattle.cycle.specs.Records.{Record};
 use crate::answer::Answer;
 use crate::banks::{Bank, weighed_all};
 use crate::map::{Masks, refused};
-use crate::number::{Next, Verdict, judged};
+use crate::number::{Next, judged, unless};
 use crate::requests::both_ways;
 use crate::size::{MODULES, STRINGS};
 use crate::string::StringState;
 use crate::values::{Major, Minor, Quantities};
 use bits::has;
+use std::array;
 
 #[derive(Clone, Copy)]
 pub struct Hall {
@@ -25,11 +26,11 @@ pub struct Hall {
     pub banks: [Bank; MODULES],
 }
 
-// What a step gives back.
+// What a step gives back: the answer, and the hall after it, of this engine or of another.
 #[derive(Clone, Copy)]
-pub struct Stepped {
+pub struct Stepped<H> {
     pub answer: Answer,
-    pub hall: Hall,
+    pub hall: H,
 }
 
 // Is some string busy?
@@ -37,12 +38,8 @@ fn some_busy(strings: [StringState; STRINGS], r: Minor) -> bool
     ensures { result ≡ some_busy string_count r strings }
 {
     let mut found = false;
-    let mut s: usize = 0;
-    while s < STRINGS {
-        let string = strings[s];
-        let sample = r.samples[s];
-        found = found | string.busy(sample.valves as u32);
-        s += 1;
+    for s in 0..STRINGS {
+        found |= strings[s].busy(r.samples[s].valves as u32);
     }
     found
 }
@@ -55,46 +52,30 @@ fn quiet_strings(
 ) -> [StringState; STRINGS]
     ensures { result ≡ quiet_strings string_count masks r strings }
 {
-    let mut next = strings;
-    let mut s: usize = 0;
-    while s < STRINGS {
-        let string = next[s];
-        let m = masks[s];
-        let sample = r.samples[s];
-        next[s] = string.quiet_cycle(m, sample);
-        s += 1;
-    }
-    next
+    array::from_fn(|s| strings[s].quiet_cycle(masks[s], r.samples[s]))
 }
 
-// Every string by all its steps. The first three are written out for each string: a loop over so much is not unrolled, and then the strings
-// stay in memory, and every record, quiet or not, carries them from place to place.
+// Every string by all its steps. The first three are written out for each string: neither a loop nor `from_fn` over so much is unrolled, and
+// then the strings stay in memory, and every record, quiet or not, carries them from place to place.
 fn all_steps(
     strings: [StringState; STRINGS],
     masks: [Masks; STRINGS],
     r: Minor,
-    gap: bool,
-    missed: bool,
+    next: Next,
 ) -> [StringState; STRINGS]
-    ensures { result ≡ minor_strings string_count masks r gap missed strings }
+    ensures { result ≡ minor_strings string_count masks r next.gap next.missed strings }
 {
     let path = r.path as u32;
-    let samples = r.samples;
-    let mut next = [
-        strings[0].first_steps(masks[0], has(path, 0), samples[0], gap, missed),
-        strings[1].first_steps(masks[1], has(path, 1), samples[1], gap, missed),
-        strings[2].first_steps(masks[2], has(path, 2), samples[2], gap, missed),
-        strings[3].first_steps(masks[3], has(path, 3), samples[3], gap, missed),
+    let mut stepped = [
+        strings[0].first_steps(masks[0], has(path, 0), r.samples[0], next),
+        strings[1].first_steps(masks[1], has(path, 1), r.samples[1], next),
+        strings[2].first_steps(masks[2], has(path, 2), r.samples[2], next),
+        strings[3].first_steps(masks[3], has(path, 3), r.samples[3], next),
     ];
-    let mut s: usize = 0;
-    while s < STRINGS {
-        let string = next[s];
-        let m = masks[s];
-        let sample = samples[s];
-        next[s] = string.fourth_step(m, has(path, s), sample.valves as u32);
-        s += 1;
+    for s in 0..STRINGS {
+        stepped[s] = stepped[s].fourth_step(masks[s], has(path, s), r.samples[s].valves as u32);
     }
-    next
+    stepped
 }
 
 // Steps 1 to 4 of every string. Most records find nothing but words to change: they are told apart once, and not step by step.
@@ -102,52 +83,43 @@ fn minor_strings(
     strings: [StringState; STRINGS],
     masks: [Masks; STRINGS],
     r: Minor,
-    gap: bool,
-    missed: bool,
+    next: Next,
 ) -> [StringState; STRINGS]
-    ensures { result ≡ minor_strings string_count masks r gap missed strings }
+    ensures { result ≡ minor_strings string_count masks r next.gap next.missed strings }
 {
-    if gap | missed | (r.path != 0) | some_busy(strings, r) {
-        all_steps(strings, masks, r, gap, missed)
+    if next.gap | next.missed | (r.path != 0) | some_busy(strings, r) {
+        all_steps(strings, masks, r, next)
     } else {
         quiet_strings(strings, masks, r)
     }
 }
 
-// Steps 5 to 8 of every string.
+// Steps 5 to 8 of every string, in place: `from_fn` is not unrolled over so much either.
 fn major_strings(
-    strings: [StringState; STRINGS],
+    mut strings: [StringState; STRINGS],
     masks: [Masks; STRINGS],
     r: Major,
 ) -> [StringState; STRINGS]
     ensures { result ≡ major_strings string_count masks r strings }
 {
-    let minor = r.minor;
-    let path = minor.path as u32;
-    let mut next = strings;
-    let mut s: usize = 0;
-    while s < STRINGS {
-        let string = next[s];
-        let m = masks[s];
-        let sample = minor.samples[s];
-        let t = r.temperatures[s];
-        let q = r.requests[s];
-        next[s] = string.major_cycle(m, has(path, s), sample, t, q);
-        s += 1;
+    let path = r.minor.path as u32;
+    for s in 0..STRINGS {
+        strings[s] = strings[s].major_cycle(
+            masks[s],
+            has(path, s),
+            r.minor.samples[s],
+            r.temperatures[s],
+            r.requests[s],
+        );
     }
-    next
+    strings
 }
 
-// Step 8 of every string, written out as the first steps are.
+// Step 8 of every string. `from_fn` is unrolled, a loop is not.
 fn kept_strings(strings: [StringState; STRINGS]) -> [StringState; STRINGS]
     ensures { result ≡ kept_strings strings }
 {
-    [
-        strings[0].kept(),
-        strings[1].kept(),
-        strings[2].kept(),
-        strings[3].kept(),
-    ]
+    array::from_fn(|s| strings[s].kept())
 }
 
 impl Hall {
@@ -155,15 +127,11 @@ impl Hall {
     pub fn fresh(masks: [Masks; STRINGS]) -> Hall
         ensures { result ≡ fresh_hall masks }
     {
-        let string = StringState::fresh();
-        let bank = Bank::unknown();
-        let strings = [string; STRINGS];
-        let banks = [bank; MODULES];
         Hall {
             n: 0,
-            masks: masks,
-            strings: strings,
-            banks: banks,
+            masks,
+            strings: [StringState::fresh(); STRINGS],
+            banks: [Bank::unknown(); MODULES],
         }
     }
 
@@ -171,11 +139,8 @@ impl Hall {
     pub fn minor_taken(mut self, r: Minor, next: Next) -> Hall
         ensures { result ≡ minor_taken r next self }
     {
-        let masks = self.masks;
-        let before = self.strings;
-        let strings = minor_strings(before, masks, r, next.gap, next.missed);
+        self.strings = minor_strings(self.strings, self.masks, r, next);
         self.n = next.n;
-        self.strings = strings;
         self
     }
 
@@ -183,14 +148,8 @@ impl Hall {
     pub fn major_taken(mut self, r: Major) -> Hall
         ensures { result ≡ major_taken r self }
     {
-        let masks = self.masks;
-        let before = self.strings;
-        let held = self.banks;
-        let quantities = r.quantities;
-        let strings = major_strings(before, masks, r);
-        let banks = weighed_all(held, quantities);
-        self.strings = strings;
-        self.banks = banks;
+        self.strings = major_strings(self.strings, self.masks, r);
+        self.banks = weighed_all(self.banks, r.quantities);
         self
     }
 
@@ -198,63 +157,47 @@ impl Hall {
     pub fn kept_all(mut self, q: [Quantities; MODULES]) -> Hall
         ensures { result ≡ kept_all q self }
     {
-        let before = self.strings;
-        let held = self.banks;
-        let strings = kept_strings(before);
-        let banks = weighed_all(held, q);
-        self.strings = strings;
-        self.banks = banks;
+        self.strings = kept_strings(self.strings);
+        self.banks = weighed_all(self.banks, q);
         self
     }
 
     // A minor record's values.
-    pub fn minor(self, r: Minor) -> Stepped
+    pub fn minor(self, r: Minor) -> Stepped<Hall>
         ensures { result ≡ stepped (Record.minor r) self }
     {
-        let v = judged(self.n, r.wire, false);
-        match v {
-            Verdict::Takes(next) => Stepped {
+        match judged(self.n, r.wire, false) {
+            Ok(next) => Stepped {
                 answer: Answer::Taken,
                 hall: self.minor_taken(r, next),
             },
-            Verdict::Refuses(answer) => Stepped {
-                answer: answer,
-                hall: self,
-            },
+            Err(answer) => Stepped { answer, hall: self },
         }
     }
 
     // A major record's values.
-    pub fn major(self, r: Major) -> Stepped
+    pub fn major(self, r: Major) -> Stepped<Hall>
         ensures { result ≡ stepped (Record.major r) self }
     {
-        let minor = r.minor;
-        let masks = self.masks;
-        let requests = r.requests;
-        let v = judged(self.n, minor.wire, true).unless(both_ways(masks, requests));
-        match v {
-            Verdict::Takes(next) => Stepped {
+        let named = both_ways(self.masks, r.requests);
+        match unless(judged(self.n, r.minor.wire, true), named) {
+            Ok(next) => Stepped {
                 answer: Answer::Taken,
-                hall: self.minor_taken(minor, next).major_taken(r),
+                hall: self.minor_taken(r.minor, next).major_taken(r),
             },
-            Verdict::Refuses(answer) => Stepped {
-                answer: answer,
-                hall: self,
-            },
+            Err(answer) => Stepped { answer, hall: self },
         }
     }
 }
 
 // Starting over a map: accepted, or 6 and a fresh hall over the empty map.
-pub fn start(masks: [Masks; STRINGS]) -> Stepped
+pub fn start(masks: [Masks; STRINGS]) -> Stepped<Hall>
     ensures { result ≡ started masks }
 {
     if refused(masks) {
-        let none = Masks::none();
-        let empty = [none; STRINGS];
         Stepped {
             answer: Answer::MapRefused,
-            hall: Hall::fresh(empty),
+            hall: Hall::fresh([Masks::none(); STRINGS]),
         }
     } else {
         Stepped {

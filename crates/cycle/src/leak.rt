@@ -17,13 +17,9 @@ fn cold(t: u16) -> bool
 fn leak_sweep(t: Temperatures) -> u32
     ensures { result ≡ leak_word t }
 {
-    let words = t.words;
     let mut w: u32 = 0;
-    let mut k: usize = 0;
-    while k < TEMPERATURES {
-        let b = cold(words[k]);
-        w = bits::with_bit(w, k / 2, b);
-        k += 1;
+    for k in 0..TEMPERATURES {
+        w = bits::with_bit(w, k / 2, cold(t.words[k]));
     }
     w
 }
@@ -32,15 +28,14 @@ fn leak_sweep(t: Temperatures) -> u32
 fn leak_walk(jets: u32, t: Temperatures) -> u32
     ensures { result ≡ bit_and jets (leak_word t) }
 {
-    let words = t.words;
     let mut w: u32 = 0;
     let mut rest = jets;
     while rest != 0 {
-        let j = u32::trailing_zeros(rest) as usize;
-        if cold(words[2 * j]) || cold(words[2 * j + 1]) {
-            w = w | (1 << j);
+        let j = rest.trailing_zeros() as usize;
+        if cold(t.words[2 * j]) || cold(t.words[2 * j + 1]) {
+            w |= 1 << j;
         }
-        rest = rest ^ (1 << j);
+        rest ^= 1 << j;
     }
     w
 }
@@ -51,11 +46,9 @@ pub(crate) fn leak_word(mapped: u32, t: Temperatures) -> u32
 {
     if mapped == 0 {
         0
+    } else if mapped == ALL_JETS {
+        leak_sweep(t)
     } else {
-        if mapped == ALL_JETS {
-            leak_sweep(t)
-        } else {
-            leak_walk(mapped, t)
-        }
+        leak_walk(mapped, t)
     }
 }

@@ -14,5 +14,6 @@ pub mod number;
 pub mod requests;
 mod sets;
 pub mod size;
+pub mod slots;
 pub mod string;
 pub mod values;

@@ -5,6 +5,7 @@ ghost use Rattle.cycle.specs.Map.{no_masks, mapped, overlap, refused};
 ghost use Rattle.cycle.specs.Calm.{mapped_words};
 
 use crate::size::{MANIFOLDS, STRINGS};
+use std::array;
 
 // The masks of one string, manifold 0 first.
 #[derive(Clone, Copy)]
@@ -17,20 +18,18 @@ impl Masks {
     pub fn none() -> Masks
         ensures { result ≡ no_masks }
     {
-        let words = [0u32; MANIFOLDS];
-        Masks { words: words }
+        Masks {
+            words: [0; MANIFOLDS],
+        }
     }
 
     // The jets that stand in some mask.
     pub fn mapped(self) -> u32
         ensures { result ≡ mapped manifold_count self.words }
     {
-        let words = self.words;
         let mut w: u32 = 0;
-        let mut i: usize = 0;
-        while i < MANIFOLDS {
-            w = w | words[i];
-            i += 1;
+        for word in &self.words {
+            w |= *word;
         }
         w
     }
@@ -39,14 +38,11 @@ impl Masks {
     fn overlap(self) -> bool
         ensures { result ≡ overlap manifold_count self.words }
     {
-        let words = self.words;
         let mut seen: u32 = 0;
         let mut found = false;
-        let mut i: usize = 0;
-        while i < MANIFOLDS {
-            found = found | bits::meets(words[i], seen);
-            seen = seen | words[i];
-            i += 1;
+        for word in &self.words {
+            found |= bits::meets(*word, seen);
+            seen |= *word;
         }
         found
     }
@@ -56,14 +52,7 @@ impl Masks {
 pub fn mapped_words(masks: [Masks; STRINGS]) -> [u32; STRINGS]
     ensures { result ≡ mapped_words masks }
 {
-    let mut words = [0u32; STRINGS];
-    let mut s: usize = 0;
-    while s < STRINGS {
-        let m = masks[s];
-        words[s] = m.mapped();
-        s += 1;
-    }
-    words
+    array::from_fn(|s| masks[s].mapped())
 }
 
 // Is the map refused: does some string have a jet in two masks?
@@ -71,11 +60,8 @@ pub(crate) fn refused(masks: [Masks; STRINGS]) -> bool
     ensures { result ≡ refused string_count masks }
 {
     let mut found = false;
-    let mut s: usize = 0;
-    while s < STRINGS {
-        let m = masks[s];
-        found = found | m.overlap();
-        s += 1;
+    for m in masks {
+        found |= m.overlap();
     }
     found
 }

@@ -15,27 +15,15 @@ pub struct Next {
     pub missed: bool,
 }
 
-#[derive(Clone, Copy)]
-pub enum Verdict {
-    Takes(Next),
-    Refuses(Answer),
-}
-
-impl Verdict {
-    // 7, tested after 4: refuses a record that the verdict takes, if a jet is named both ways.
-    pub(crate) fn unless(self, named: bool) -> Verdict
-        ensures { result ≡ unless_both_ways named self }
-    {
-        match self {
-            Verdict::Takes(next) => {
-                if named {
-                    Verdict::Refuses(Answer::BothWays)
-                } else {
-                    Verdict::Takes(next)
-                }
-            }
-            Verdict::Refuses(answer) => Verdict::Refuses(answer),
-        }
+// 7, tested after 4: refuses a record that its number lets be taken, if a jet is named both ways.
+pub(crate) fn unless(verdict: Result<Next, Answer>, named: bool) -> Result<Next, Answer>
+    ensures { result ≡ unless_both_ways named verdict }
+{
+    let next = verdict?;
+    if named {
+        Err(Answer::BothWays)
+    } else {
+        Ok(next)
     }
 }
 
@@ -43,7 +31,7 @@ impl Verdict {
 fn distance(n: u32, wire: u16) -> u16
     ensures { result ≡ distance n wire }
 {
-    std::num::wrapping_sub_u16(wire, (n % 65536) as u16)
+    wire.wrapping_sub((n % 65536) as u16)
 }
 
 // Is a cycle of this number major?
@@ -62,50 +50,36 @@ fn missed_major(old: u32, new: u32) -> bool
 }
 
 // The verdict on a record of distance d that is neither stale nor a repeat: the count may end, or its kind be wrong.
-fn following(n: u32, d: u16, gap: bool, major: bool) -> Verdict
+fn following(n: u32, d: u16, gap: bool, major: bool) -> Result<Next, Answer>
     requires { 0 < d }
     ensures { result ≡ following n d gap major }
 {
-    let step = d as u32;
+    let step = u32::from(d);
     if LAST_COUNT - n < step {
-        return Verdict::Refuses(Answer::CountEnded);
+        return Err(Answer::CountEnded);
     }
     let new = n + step;
-    let right = is_major(new);
-    let missed = missed_major(n, new);
-    if right {
-        if major {
-            Verdict::Takes(Next {
-                n: new,
-                gap: gap,
-                missed: missed,
-            })
-        } else {
-            Verdict::Refuses(Answer::WrongKind)
-        }
-    } else {
-        if major {
-            Verdict::Refuses(Answer::WrongKind)
-        } else {
-            Verdict::Takes(Next {
-                n: new,
-                gap: gap,
-                missed: missed,
-            })
-        }
+    if is_major(new) != major {
+        return Err(Answer::WrongKind);
     }
+    Ok(Next {
+        n: new,
+        gap,
+        missed: missed_major(n, new),
+    })
 }
 
-// The verdict by its number on a record, minor or major, with this wire cycle at the cycle number n.
-pub fn judged(n: u32, wire: u16, major: bool) -> Verdict
+// The verdict by its number on a record, minor or major, with this wire cycle at the cycle number n: what it leads to if it is taken, or the
+// answer that refuses it.
+pub fn judged(n: u32, wire: u16, major: bool) -> Result<Next, Answer>
     ensures { result ≡ judged n wire major }
 {
     let d = distance(n, wire);
     match d {
-        0 => Verdict::Refuses(Answer::Repeat),
+        0 => Err(Answer::Repeat),
         1 => following(n, d, false, major),
         2..=32767 => following(n, d, true, major),
-        32768..=65535 => Verdict::Refuses(Answer::Stale),
+        32768..=65535 => Err(Answer::Stale),
     }
 }
 
@@ -117,7 +91,5 @@ pub fn follows(n: u32, wire: u16, major: bool) -> bool
         return false;
     }
     let next = n + 1;
-    let right = is_major(next);
-    let wrong = (right & !major) | (!right & major);
-    (wire == (next % 65536) as u16) & !wrong
+    (wire == (next % 65536) as u16) & (is_major(next) == major)
 }

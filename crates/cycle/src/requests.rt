@@ -12,8 +12,7 @@ use bits::meets;
 fn string_both_ways(masks: Masks, q: Requests) -> bool
     ensures { result ≡ string_both_ways masks.words q }
 {
-    let jets = masks.mapped();
-    meets(jets & q.inhibit, q.reenable)
+    meets(masks.mapped() & q.inhibit, q.reenable)
 }
 
 // Does some string's? Those under a path fault are counted too.
@@ -21,12 +20,8 @@ pub fn both_ways(masks: [Masks; STRINGS], requests: [Requests; STRINGS]) -> bool
     ensures { result ≡ both_ways string_count masks requests }
 {
     let mut found = false;
-    let mut s: usize = 0;
-    while s < STRINGS {
-        let m = masks[s];
-        let q = requests[s];
-        found = found | string_both_ways(m, q);
-        s += 1;
+    for s in 0..STRINGS {
+        found |= string_both_ways(masks[s], requests[s]);
     }
     found
 }

@@ -25,10 +25,8 @@ pub(crate) fn sets_back(
 {
     let back = chosen(lost, ALL_MANIFOLDS, 0);
     let mut saved = own;
-    let mut i: usize = 0;
-    while i < MANIFOLDS {
+    for i in 0..MANIFOLDS {
         saved[i] = chosen(has(back, i), kept[i], saved[i]);
-        i += 1;
     }
     saved
 }
@@ -37,12 +35,9 @@ pub(crate) fn sets_back(
 pub(crate) fn behind_closed(masks: Masks, valves: u32) -> u32
     ensures { result ≡ behind_closed manifold_count masks.words valves }
 {
-    let words = masks.words;
     let mut w: u32 = 0;
-    let mut i: usize = 0;
-    while i < MANIFOLDS {
-        w = w | chosen(has(valves, i), 0, words[i]);
-        i += 1;
+    for i in 0..MANIFOLDS {
+        w |= chosen(has(valves, i), 0, masks.words[i]);
     }
     w
 }
@@ -65,13 +60,9 @@ fn asks_close(mask: u32, recheck: u32, bad: u32) -> bool
 pub(crate) fn close_bits(masks: Masks, recheck: u32, bad: u32) -> u32
     ensures { result ≡ close_bits manifold_count masks.words recheck bad }
 {
-    let words = masks.words;
     let mut w: u32 = 0;
-    let mut i: usize = 0;
-    while i < MANIFOLDS {
-        let asks = asks_close(words[i], recheck, bad);
-        w = with_bit(w, i, asks);
-        i += 1;
+    for i in 0..MANIFOLDS {
+        w = with_bit(w, i, asks_close(masks.words[i], recheck, bad));
     }
     w
 }

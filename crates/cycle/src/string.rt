@@ -8,8 +8,10 @@ ghost use Rattle.cycle.specs.Inside.Halves.{first_steps, fourth_step};
 
 use crate::leak::leak_word;
 use crate::map::Masks;
+use crate::number::Next;
 use crate::sets::{bad_jets, behind_closed, close_bits, sets_back};
 use crate::size::{ALL_OPEN, MANIFOLDS};
+use crate::slots::{OffSlots, OnSlots, Overrides};
 use crate::values::{Requests, Sample, Temperatures};
 use bits::{has, without};
 
@@ -22,33 +24,12 @@ pub struct Standing {
 }
 
 #[derive(Clone, Copy)]
-pub struct OffSlots {
-    pub newest: u32,
-    pub older: u32,
-    pub oldest: u32,
-}
-
-#[derive(Clone, Copy)]
-pub struct OnSlots {
-    pub newest: u32,
-    pub older: u32,
-    pub recheck: u32,
-}
-
-// The inhibits and re-enables in force.
-#[derive(Clone, Copy)]
-pub struct Overrides {
-    pub inhibit: u32,
-    pub reenable: u32,
-}
-
-#[derive(Clone, Copy)]
 pub struct StringState {
     pub standing: Standing,
     pub good: Standing,
-    pub off: OffSlots,
-    pub on: OnSlots,
-    pub over: Overrides,
+    pub off: OffSlots<u32>,
+    pub on: OnSlots<u32>,
+    pub over: Overrides<u32>,
     // Bit i set: manifold i is to be closed.
     pub close: u32,
     // A path fault is remembered.
@@ -71,7 +52,7 @@ impl AtManifold {
         if was {
             if !now {
                 self.saved = without(mask, self.fail);
-                self.fail = self.fail | mask;
+                self.fail |= mask;
                 self.reenable = without(self.reenable, mask);
             }
         } else {
@@ -87,29 +68,17 @@ impl StringState {
     pub(crate) fn fresh() -> StringState
         ensures { result ≡ fresh }
     {
-        let none = [0u32; MANIFOLDS];
         let standing = Standing {
             fail: 0,
             valves: ALL_OPEN,
-            saved: none,
+            saved: [0; MANIFOLDS],
         };
         StringState {
-            standing: standing,
+            standing,
             good: standing,
-            off: OffSlots {
-                newest: 0,
-                older: 0,
-                oldest: 0,
-            },
-            on: OnSlots {
-                newest: 0,
-                older: 0,
-                recheck: 0,
-            },
-            over: Overrides {
-                inhibit: 0,
-                reenable: 0,
-            },
+            off: OffSlots::default(),
+            on: OnSlots::default(),
+            over: Overrides::default(),
             close: 0,
             lost: false,
         }
@@ -127,54 +96,26 @@ impl StringState {
     fn recovered(mut self) -> StringState
         ensures { result ≡ recovered self }
     {
-        let good = self.good;
-        let mut standing = self.standing;
-        let kept = good.saved;
-        let own = standing.saved;
-        let saved = sets_back(self.lost, kept, own);
-        standing.saved = saved;
+        self.standing.saved = sets_back(self.lost, self.good.saved, self.standing.saved);
         if self.lost {
-            let off = OffSlots {
-                newest: 0,
-                older: 0,
-                oldest: 0,
-            };
-            let on = OnSlots {
-                newest: 0,
-                older: 0,
-                recheck: 0,
-            };
-            standing.fail = good.fail;
-            standing.valves = good.valves;
-            self.standing = standing;
-            self.off = off;
-            self.on = on;
+            self.standing.fail = self.good.fail;
+            self.standing.valves = self.good.valves;
+            self.off = OffSlots::default();
+            self.on = OnSlots::default();
             self.lost = false;
-        } else {
-            self.standing = standing;
         }
         self
     }
 
-    // Step 2. gap: a cycle was missed; missed: a major one.
-    fn gapped(mut self, gap: bool, missed: bool) -> StringState
-        ensures { result ≡ gapped gap missed self }
+    // Step 2, by what the record leads to.
+    fn gapped(mut self, next: Next) -> StringState
+        ensures { result ≡ gapped next.gap next.missed self }
     {
-        if gap {
-            let no_off = OffSlots {
-                newest: 0,
-                older: 0,
-                oldest: 0,
-            };
-            self.off = no_off;
+        if next.gap {
+            self.off = OffSlots::default();
         }
-        if missed {
-            let no_on = OnSlots {
-                newest: 0,
-                older: 0,
-                recheck: 0,
-            };
-            self.on = no_on;
+        if next.missed {
+            self.on = OnSlots::default(); // the recheck word too
         }
         self
     }
@@ -183,19 +124,16 @@ impl StringState {
     fn off_failure(mut self, commanded: u32, pressure: u32) -> StringState
         ensures { result ≡ off_failure commanded pressure self }
     {
-        let was = self.off;
-        let mut standing = self.standing;
         let off = OffSlots {
             newest: without(commanded, pressure),
-            older: was.newest,
-            oldest: was.older,
+            older: self.off.newest,
+            oldest: self.off.older,
         };
-        standing.fail = without(
-            standing.fail | (off.newest & off.older & off.oldest),
+        self.standing.fail = without(
+            self.standing.fail | (off.newest & off.older & off.oldest),
             self.over.reenable,
         );
         self.off = off;
-        self.standing = standing;
         self
     }
 
@@ -203,37 +141,27 @@ impl StringState {
     fn manifolds(mut self, masks: Masks, valves: u32) -> StringState
         ensures { result ≡ manifolds manifold_count masks.words valves self }
     {
-        let words = masks.words;
-        let standing = self.standing;
-        let over = self.over;
-        let was = standing.valves;
-        let mut saved = standing.saved;
-        let mut fail = standing.fail;
-        let mut reenable = over.reenable;
-        let mut i: usize = 0;
-        while i < MANIFOLDS {
+        let was = self.standing.valves;
+        let mut saved = self.standing.saved;
+        let mut fail = self.standing.fail;
+        let mut reenable = self.over.reenable;
+        for i in 0..MANIFOLDS {
             let before = AtManifold {
-                fail: fail,
-                reenable: reenable,
+                fail,
+                reenable,
                 saved: saved[i],
             };
-            let after = before.manifold(words[i], has(was, i), has(valves, i));
+            let after = before.manifold(masks.words[i], has(was, i), has(valves, i));
             fail = after.fail;
             reenable = after.reenable;
             saved[i] = after.saved;
-            i += 1;
         }
-        let next = Standing {
-            fail: fail | over.inhibit,
-            valves: valves,
-            saved: saved,
+        self.standing = Standing {
+            fail: fail | self.over.inhibit,
+            valves,
+            saved,
         };
-        let still = Overrides {
-            inhibit: over.inhibit,
-            reenable: reenable,
-        };
-        self.standing = next;
-        self.over = still;
+        self.over.reenable = reenable;
         self
     }
 
@@ -250,9 +178,7 @@ impl StringState {
     {
         let mapped = masks.mapped();
         let mut next = self.off_failure(mapped & sample.commanded, sample.pressure);
-        let mut standing = next.standing;
-        standing.fail = standing.fail | next.over.inhibit;
-        next.standing = standing;
+        next.standing.fail |= next.over.inhibit;
         next
     }
 
@@ -261,13 +187,9 @@ impl StringState {
     fn requested(mut self, inhibit: u32, reenable: u32, drop: u32) -> StringState
         ensures { result ≡ requested inhibit reenable drop self }
     {
-        let mut standing = self.standing;
-        let mut over = self.over;
-        over.inhibit = without(over.inhibit, reenable) | inhibit;
-        over.reenable = without(over.reenable | reenable, inhibit);
-        standing.fail = without(standing.fail, reenable) | inhibit;
-        self.over = over;
-        self.standing = standing;
+        self.over.inhibit = without(self.over.inhibit, reenable) | inhibit;
+        self.over.reenable = without(self.over.reenable | reenable, inhibit);
+        self.standing.fail = without(self.standing.fail, reenable) | inhibit;
         self.close = without(self.close, drop);
         self
     }
@@ -277,7 +199,7 @@ impl StringState {
         ensures { result ≡ rechecked manifold_count masks.words bad self }
     {
         let again = without(bad, self.over.reenable);
-        self.close = self.close | close_bits(masks, self.on.recheck, again);
+        self.close |= close_bits(masks, self.on.recheck, again);
         self
     }
 
@@ -286,15 +208,13 @@ impl StringState {
         ensures { result ≡ on_failure bad self }
     {
         let older = self.on.newest;
-        let mut standing = self.standing;
         let on = OnSlots {
             newest: bad,
-            older: older,
+            older,
             recheck: without(bad & older, self.over.reenable),
         };
-        standing.fail = standing.fail | on.recheck;
+        self.standing.fail |= on.recheck;
         self.on = on;
-        self.standing = standing;
         self
     }
 
@@ -302,8 +222,7 @@ impl StringState {
     pub(crate) fn kept(mut self) -> StringState
         ensures { result ≡ kept self }
     {
-        let standing = self.standing;
-        self.good = standing;
+        self.good = self.standing;
         self
     }
 
@@ -313,18 +232,17 @@ impl StringState {
         masks: Masks,
         path: bool,
         sample: Sample,
-        gap: bool,
-        missed: bool,
+        next: Next,
     ) -> StringState
-        ensures { result ≡ first_steps manifold_count masks.words path sample gap missed self }
+        ensures { result ≡ first_steps manifold_count masks.words path sample next.gap next.missed self }
     {
         if path {
             self.path_lost()
         } else {
             let mapped = masks.mapped();
-            let a = self.recovered();
-            let b = a.gapped(gap, missed);
-            b.off_failure(mapped & sample.commanded, sample.pressure)
+            self.recovered()
+                .gapped(next)
+                .off_failure(mapped & sample.commanded, sample.pressure)
         }
     }
 
@@ -358,10 +276,10 @@ impl StringState {
             let bad = bad_jets(mapped, sample.commanded, sample.driver, leaking);
             let closed = behind_closed(masks, self.standing.valves);
             let heeded = without(mapped & q.reenable, closed);
-            let a = self.requested(mapped & q.inhibit, heeded, q.drop as u32);
-            let b = a.rechecked(masks, bad);
-            let d = b.on_failure(bad);
-            d.kept()
+            self.requested(mapped & q.inhibit, heeded, q.drop as u32)
+                .rechecked(masks, bad)
+                .on_failure(bad)
+                .kept()
         }
     }
 }

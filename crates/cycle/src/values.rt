@@ -2,7 +2,7 @@
 use crate::size::{MODULES, STRINGS, TEMPERATURES};
 
 // One string's part of every record: commanded, pressure and driver words, and the valve byte (bit i set: manifold i is open).
-#[derive(Clone, Copy)]
+#[derive(Clone, Copy, Default)]
 pub struct Sample {
     pub commanded: u32,
     pub pressure: u32,
@@ -25,7 +25,7 @@ pub struct Temperatures {
 }
 
 // A string's requests: inhibit and re-enable words, and the drop byte (bit i set: manifold i's close bit is to be dropped).
-#[derive(Clone, Copy)]
+#[derive(Clone, Copy, Default)]
 pub struct Requests {
     pub inhibit: u32,
     pub reenable: u32,
@@ -33,7 +33,7 @@ pub struct Requests {
 }
 
 // A module's two quantities, in tenths of a percent.
-#[derive(Clone, Copy)]
+#[derive(Clone, Copy, Default)]
 pub struct Quantities {
     pub fuel: u16,
     pub oxidizer: u16,

@@ -2,6 +2,7 @@
 pub mod Numerals
 pub mod Lengths
 pub mod Sums
+pub mod Spans
 pub mod Looks
 pub mod Whole
 pub mod Tails

@@ -4,6 +4,7 @@ pub mod ReportLengths
 pub mod ReportWritten
 pub mod Parts
 pub mod Laying
+pub mod PutEach
 pub mod Stands
 pub mod ReportBytes
 pub mod ReportPlaces

@@ -134,7 +134,7 @@ pub record Read (m : Monitor) (piece : List ℕ) (c : Result) : Type 0 where
 -- ---- starting
 
 -- "6 map: two masks of a string overlap: a fresh one over the empty map"; else a fresh one over the map, and the answer 0
-pub record Starts (masks : List Masks) (x : Outcome) : Type 0 where
+pub record Starts (masks : List Masks) (x : Outcome Monitor) : Type 0 where
   pub refused : (x.answer ≡ MapRefused) ↔ TwoMasks 8 masks
   pub accepted : (x.answer ≡ Taken) ↔ (TwoMasks 8 masks → ⊥)
   pub emptied : TwoMasks 8 masks → x.monitor ≡ holding (fresh_hall (replicate 4 (record { words = replicate 8 0 }))) []

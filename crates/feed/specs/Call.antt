@@ -23,12 +23,12 @@ abbrev pub holding : Hall → List ℕ → Monitor
 holding h l = record { hall = h; held = store l; count = length l }
 
 -- a fresh monitor over a map
-unfoldable pub started_over : List Masks → Outcome
+unfoldable pub started_over : List Masks → Outcome Monitor
 started_over masks = let x = started masks in record { answer = x.answer; used = 0; monitor = holding x.hall [] }
 
 -- what a call gives back, and the whole outbox
 pub record Result : Type 0 where
-  pub outcome : Outcome
+  pub outcome : Outcome Monitor
   pub outbox : List ℕ
 
 -- a record stands at the front: it is answered and removed, and its report written; 02, order 10: bytes after the 40th keep their values

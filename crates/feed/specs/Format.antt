@@ -1,5 +1,5 @@
 -- 01, "The feed", as 02, orders 6 and 7, amend it: the record format, over lists of bytes. Assumes nothing.
-use Rattle.std.specs.Prelude.{ℕ, ◌+◌, ◌-◌, ◌*◌, ◌%◌, Bool, true, false, cond, ◌&&◌, List, [], ◌∷◌, length, take, ◌==◌, nat_le, nat_lt, slice_index}
+use Rattle.std.specs.Prelude.{ℕ, ◌+◌, ◌-◌, ◌*◌, ◌%◌, Bool, true, false, cond, ◌&&◌, List, [], ◌∷◌, length, take, ◌==◌, nat_le, nat_lt, slice_index, Option, None, Some}
 use Rattle.bits.specs.Bit.{every}
 use Rattle.cycle.specs.Size.{module_count}
 use Rattle.feed.specs.Size.{mark_byte, minor_mark, major_mark, minor_length, major_length, sum_length, sum_span, reserved_from, most_quantity}
@@ -7,8 +7,6 @@ use Rattle.feed.specs.Size.{path_at, quantities_from, quantities_length, quantit
 use Rattle.feed.specs.Bytes.{two}
 use Rattle.feed.specs.declared.format.Kind.{Kind}
 use Rattle.feed.specs.declared.format.Kind.TheVariants.{Minor, Major}
-use Rattle.feed.specs.declared.format.Mark.{Mark}
-use Rattle.feed.specs.declared.format.Mark.TheVariants.{NoMark, Of}
 use Rattle.feed.specs.declared.format.Look.{Look}
 use Rattle.feed.specs.declared.format.Look.TheVariants.{Drops, Waits, Loses, Settles}
 
@@ -62,13 +60,13 @@ abbrev pub good_kind : Kind → List ℕ → Bool
 good_kind k l = (row_of k).good l
 
 -- "Each record begins with a two-byte mark": what the second byte makes of it
-unfoldable pub mark_of : ℕ → Mark
-mark_of b = cond (b == (row_of Minor).mark) (Of Minor) (cond (b == (row_of Major).mark) (Of Major) NoMark)
+unfoldable pub mark_of : ℕ → Option Kind
+mark_of b = cond (b == (row_of Minor).mark) (Some Minor) (cond (b == (row_of Major).mark) (Some Major) None)
 
 -- the length that it announces, 0 where it makes no mark
-abbrev pub length_marked : Mark → ℕ
-length_marked NoMark = 0
-length_marked (Of k) = length_of k
+abbrev pub length_marked : Option Kind → ℕ
+length_marked None = 0
+length_marked (Some k) = length_of k
 
 -- ---- "The reader looks at the oldest byte held."
 
@@ -77,9 +75,9 @@ length_marked (Of k) = length_of k
 abbrev pub full_look : Kind → List ℕ → Look
 full_look k l = cond (nat_lt (length l) (length_of k)) Waits (cond (good_kind k l) (Settles k) Loses)
 
-unfoldable pub marked_look : Mark → List ℕ → Look
-marked_look NoMark l = Drops
-marked_look (Of k) l = full_look k l
+unfoldable pub marked_look : Option Kind → List ℕ → Look
+marked_look None l = Drops
+marked_look (Some k) l = full_look k l
 
 -- "If the bytes there can't begin a mark, it drops one byte. If they're a mark or the start of one, it waits for the full length."
 unfoldable pub look : List ℕ → Look
@@ -100,3 +98,10 @@ length_shown Drops = 0
 length_shown Waits = 0
 length_shown Loses = 0
 length_shown (Settles k) = length_of k
+
+-- and of which kind
+abbrev pub kind_shown : Look → Option Kind
+kind_shown Drops = None
+kind_shown Waits = None
+kind_shown Loses = None
+kind_shown (Settles k) = Some k

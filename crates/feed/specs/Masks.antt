@@ -10,6 +10,7 @@ use Rattle.feed.specs.Size.{word_length, masks_length, map_length}
 use Rattle.feed.specs.Bytes.{four}
 use Rattle.feed.specs.Call.{holding, started_over}
 use Rattle.feed.specs.declared.call.Outcome.{Outcome}
+use Rattle.feed.specs.declared.call.Monitor.{Monitor}
 
 -- the masks of the string whose masks begin at place i
 unfoldable pub mask_words_at : List ℕ → ℕ → List ℕ
@@ -22,7 +23,7 @@ unfoldable pub masks_of_bytes : List ℕ → List Masks
 masks_of_bytes l = table string_count (λ s. masks_at l (masks_length * s))
 
 -- starting over the map that 128 bytes give; bytes of any other number are no map: nothing is settled, and 6 is not given for it
-unfoldable pub started_from : List ℕ → Outcome
+unfoldable pub started_from : List ℕ → Outcome Monitor
 started_from l =
     cond (length l == map_length) (started_over (masks_of_bytes l))
     (record { answer = NothingSettled; used = 0; monitor = holding (fresh_hall (replicate string_count no_masks)) [] })

@@ -6,10 +6,11 @@ use Rattle.cycle.specs.declared.hall.Stepped.{Stepped}
 use Rattle.feed.specs.Report.{report_of}
 use Rattle.feed.specs.Call.{holds, holding, Result}
 use Rattle.feed.specs.declared.call.Monitor.{Monitor}
+use Rattle.cycle.specs.declared.hall.Hall.{Hall}
 
 -- the record led to x: "the record is settled and removed", "exactly those up to the one that settled the record", 02, order 10: bytes
 -- after the 40th keep their values
-abbrev pub settled_to : Stepped → ℕ → List ℕ → Result
+abbrev pub settled_to : Stepped Hall → ℕ → List ℕ → Result
 settled_to x used out = record {
   outcome = record { answer = x.answer; used = used; monitor = holding x.hall [] };
   outbox = report_of x.answer x.hall ++ drop 40 out;

@@ -1,5 +1,5 @@
 -- 01, "Which answer a record gets": the report; 02, order 10: "A report is 40 bytes". Assumes nothing.
-use Rattle.std.specs.Prelude.{ℕ, zero, suc, ◌+◌, ◌%◌, Bool, cond, List, [], ◌∷◌, ◌++◌, length, drop, bit_and, nat_le, slice_index, slice_index_or}
+use Rattle.std.specs.Prelude.{ℕ, zero, suc, ◌+◌, ◌%◌, Bool, cond, List, [], ◌∷◌, ◌++◌, length, drop, bit_and, nat_le, slice_index_or}
 use Rattle.bits.specs.Bit.{with_bit}
 use Rattle.cycle.specs.Size.{string_count, manifold_count, module_count}
 use Rattle.cycle.specs.Answers.{is_taken, number_of}
@@ -13,6 +13,7 @@ use Rattle.cycle.specs.declared.hall.Stepped.{Stepped}
 use Rattle.feed.specs.Size.{mark_byte, report_length, oxidizer_from}
 use Rattle.feed.specs.Bytes.{in_two, in_four, parts}
 use Rattle.feed.specs.declared.report.Shown.{Shown}
+use Rattle.feed.specs.declared.report.StringShown.{StringShown}
 
 -- "52 52; answer; n after it (4)"
 unfoldable pub head_of : ℕ → ℕ → List ℕ
@@ -65,15 +66,22 @@ reported_close h s = (string_of h s).close
 unfoldable pub report_of : Answer → Hall → List ℕ
 report_of a h = report_by a h.n (reported_fail h) (reported_close h) h.banks
 
--- of values that are shown, of whatever engine
-abbrev pub word_at : List ℕ → ℕ → ℕ
-word_at words s = slice_index words s
+-- what stands past the last string
+abbrev pub past_shown : StringShown
+past_shown = record { fail = 0; close = 0 }
 
+abbrev pub fail_shown : List StringShown → ℕ → ℕ
+fail_shown strings s = (slice_index_or strings s past_shown).fail
+
+abbrev pub close_shown : List StringShown → ℕ → ℕ
+close_shown strings s = (slice_index_or strings s past_shown).close
+
+-- of values that are shown, of whatever engine
 abbrev pub report_shown : Answer → Shown → List ℕ
-report_shown a x = report_by a x.n (word_at x.fails) (word_at x.closes) x.banks
+report_shown a x = report_by a x.n (fail_shown x.strings) (close_shown x.strings) x.banks
 
 -- of what a record led to: its report, where it is taken
-abbrev pub report_taken : Stepped → List (List ℕ)
+abbrev pub report_taken : Stepped Hall → List (List ℕ)
 report_taken x = cond (is_taken x.answer) (report_of x.answer x.hall ∷ []) []
 
 -- the report put into an outbox: 02, order 10: bytes after the 40th keep their values, and so do all where it does not fit

@@ -1,7 +1,7 @@
 -- Which record stands first among bytes, by the reader's rule: what a call settles of what it holds and is handed. Assumes nothing.
 use Rattle.std.specs.Prelude.{ℕ, ◌-◌, Bool, List, length, take, drop}
 use Rattle.cycle.specs.Records.{Record}
-use Rattle.feed.specs.Format.{look, settles, length_shown}
+use Rattle.feed.specs.Format.{look, settles, length_shown, kind_shown}
 use Rattle.feed.specs.Reader.{settle}
 use Rattle.feed.specs.Values.{values_of}
 use Rattle.feed.specs.declared.reader.Front.{Front}
@@ -26,6 +26,6 @@ behind_in l = drop (record_length l) (settle l)
 abbrev pub values_in : List ℕ → Record
 values_in l = values_of (record_in l)
 
--- where it stands: the first byte that is not dropped, and its length
+-- where it stands: the first byte that is not dropped, and its kind
 abbrev pub front_of : List ℕ → Front
-front_of l = record { at = length l - length (settle l); long = record_length l }
+front_of l = record { at = length l - length (settle l); settled = kind_shown (look (settle l)) }

@@ -12,5 +12,5 @@ unfoldable pub is_whole : List ℕ → Bool
 is_whole l = settles (look l) && length_shown (look l) == length l
 
 -- "Which answer a record gets", and the monitor "stepped" or "as before"; bytes that are no whole record settle nothing
-unfoldable pub step_of : List ℕ → Hall → Stepped
+unfoldable pub step_of : List ℕ → Hall → Stepped Hall
 step_of l h = cond (is_whole l) (stepped (values_of l) h) (record { answer = NothingSettled; hall = h })

@@ -1,15 +1,16 @@
 // The monitor and its call; and the run that hands a piece on until it is used up.
-ghost use Rattle.std.specs.Prelude.{◌≡◌, ◌+◌, ◌≤◌, true, false, length, take};
+ghost use Rattle.std.specs.Prelude.{◌≡◌, ◌≤◌, true, None, length, take};
 ghost use Rattle.feed.specs.Size.{store_length, most_held, outbox_needed};
 ghost use Rattle.feed.specs.Reader.{store};
 ghost use Rattle.feed.specs.Step.{is_whole, step_of};
 ghost use Rattle.feed.specs.Call.{call, started_over, runs, RanBy};
 ghost use Rattle.feed.specs.Masks.{started_from};
-ghost use Rattle.feed.specs.Inside.Turn.{found_in, left_count, left_bytes, Turn};
+ghost use Rattle.feed.specs.Inside.Turn.{FitsIn, found_in, left_count, left_bytes, Turn};
 
-use crate::calm::{calm_after, calm_major, calm_turn, stretch};
+use crate::calm::{Calm, calm_after, calm_major, calm_turn, stretch};
+use crate::format::length_of;
 use crate::masks::masks_of;
-use crate::reader::{clear, find, held_count, shift};
+use crate::reader::{find, held_count, shift};
 use crate::report::write_report;
 use crate::size::{MAJOR_LENGTH, MAP, MINOR_LENGTH, OUTBOX_NEEDED, REPORT, STORE};
 use crate::step::step_whole;
@@ -26,12 +27,12 @@ pub struct Monitor {
     pub count: usize,
 }
 
-// What a call gives back.
+// What a call gives back, to this monitor or to another.
 #[derive(Clone, Copy)]
-pub struct Outcome {
+pub struct Outcome<M> {
     pub answer: Answer,
     pub used: usize,
-    pub monitor: Monitor,
+    pub monitor: M,
 }
 
 // What a run over a piece gives back: the bytes of the piece used and of the outbox written, and whether there is more to come out.
@@ -43,31 +44,28 @@ pub struct Ran {
     pub monitor: Monitor,
 }
 
-// What one turn leaves: whether a record was settled, the answer, the hall, the bytes held and the bytes of the piece used.
+// What one turn leaves: the answer, if a record was settled, the hall, the bytes held and the bytes of the piece used.
 #[derive(Clone, Copy)]
 pub struct Turned {
-    pub settled: bool,
-    pub answer: Answer,
+    pub answer: Option<Answer>,
     pub hall: Hall,
     pub count: usize,
     pub used: usize,
 }
 
-// The bytes of the record found: in the store, or in the piece from `at` on.
+// The bytes of the record found: in the piece from `at` on, or else in the store.
 pub(crate) fn found_bytes<'a>(
     b: &'a [u8],
     piece: &'a [u8],
-    held: bool,
-    at: usize,
+    at: Option<usize>,
     long: usize,
 ) -> &'a [u8]
-    requires { (held ≡ true → long ≤ length b.now) × (held ≡ false → at + long ≤ length piece.now) }
-    ensures { result.now ≡ found_in held at long b.now piece.now }
+    requires { FitsIn at long b.now piece.now }
+    ensures { result.now ≡ found_in at long b.now piece.now }
 {
-    if held {
-        &b[..long]
-    } else {
-        &piece[at..at + long]
+    match at {
+        None => &b[..long],
+        Some(place) => &piece[place..place + long],
     }
 }
 
@@ -76,29 +74,27 @@ fn step_found<'a>(
     hall: Hall,
     b: &'a [u8],
     piece: &'a [u8],
-    held: bool,
-    at: usize,
+    at: Option<usize>,
     long: usize,
-) -> Stepped
-    requires long_in_bounds { (held ≡ true → long ≤ length b.now) × (held ≡ false → at + long ≤ length piece.now) }
-    requires piece_value { is_whole (found_in held at long b.now piece.now) ≡ true }
-    ensures { result ≡ step_of (found_in held at long b.now piece.now) hall }
+) -> Stepped<Hall>
+    requires long_in_bounds { FitsIn at long b.now piece.now }
+    requires piece_value { is_whole (found_in at long b.now piece.now) ≡ true }
+    ensures { result ≡ step_of (found_in at long b.now piece.now) hall }
 {
-    step_whole(hall, found_bytes(b, piece, held, at, long))
+    step_whole(hall, found_bytes(b, piece, at, long))
 }
 
 // The settled record leaves the store, if it is there.
-pub(crate) fn removed(b: &mut [u8], held: bool, count: usize, long: usize) -> usize
+pub(crate) fn removed(b: &mut [u8], at: Option<usize>, count: usize, long: usize) -> usize
     requires count_in_bounds { count ≤ length b.old }
-    requires long_le_count { held ≡ true → long ≤ count }
-    ensures { (result ≡ left_count held long count) × (b.new ≡ left_bytes held long count b.old) }
+    requires long_le_count { at ≡ None → long ≤ count }
+    ensures { (result ≡ left_count at long count) × (b.new ≡ left_bytes at long count b.old) }
 {
-    if held {
-        shift(&mut b[..count], long);
-        count - long
-    } else {
-        count
+    if at.is_some() {
+        return count;
     }
+    shift(&mut b[..count], long);
+    count - long
 }
 
 // One record settled, answered and reported, or none: a call on a store that is in order, with bytes of the piece from `from` on.
@@ -109,28 +105,21 @@ fn turn(hall: Hall, b: &mut [u8], count: usize, piece: &[u8], from: usize, out: 
     ensures { Turn hall count from b.old piece.now out.old result b.new out.new }
 {
     let f = find(b, count, piece, from);
-    let long = f.long;
-    let held = f.held;
-    let n = f.count;
-    let at = f.at;
-    if long == 0 {
+    let Some(kind) = f.settled else {
         return Turned {
-            settled: false,
-            answer: Answer::NothingSettled,
-            hall: hall,
-            count: n,
+            answer: None,
+            hall,
+            count: f.count,
             used: f.used,
         };
-    }
-    let x = step_found(hall, b, piece, held, at, long);
-    let answer = x.answer;
-    let h = x.hall;
-    write_report(out, answer, h);
-    let left = removed(b, held, n, long);
+    };
+    let long = length_of(kind);
+    let x = step_found(hall, b, piece, f.at, long);
+    write_report(out, x.answer, x.hall);
+    let left = removed(b, f.at, f.count, long);
     Turned {
-        settled: true,
-        answer: answer,
-        hall: h,
+        answer: Some(x.answer),
+        hall: x.hall,
         count: left,
         used: f.used,
     }
@@ -138,51 +127,44 @@ fn turn(hall: Hall, b: &mut [u8], count: usize, piece: &[u8], from: usize, out: 
 
 impl Monitor {
     // A fresh monitor over a map.
-    pub fn start(masks: [Masks; STRINGS]) -> Outcome
+    pub fn start(masks: [Masks; STRINGS]) -> Outcome<Monitor>
         ensures { result ≡ started_over masks }
     {
         let s = start(masks);
-        let answer = s.answer;
-        let hall = s.hall;
-        let held = [0u8; STORE];
         let monitor = Monitor {
-            hall: hall,
-            held: held,
+            hall: s.hall,
+            held: [0; STORE],
             count: 0,
         };
         Outcome {
-            answer: answer,
+            answer: s.answer,
             used: 0,
-            monitor: monitor,
+            monitor,
         }
     }
 
     // A fresh monitor over the map that 128 bytes give; bytes of another number are no map, and settle nothing.
-    pub fn start_from(bytes: &[u8]) -> Outcome
+    pub fn start_from(bytes: &[u8]) -> Outcome<Monitor>
         ensures { result ≡ started_from bytes.now }
     {
         if bytes.len() == MAP {
             Monitor::start(masks_of(bytes))
         } else {
-            let none = Masks::none();
-            let empty = [none; STRINGS];
-            let hall = Hall::fresh(empty);
-            let held = [0u8; STORE];
             let monitor = Monitor {
-                hall: hall,
-                held: held,
+                hall: Hall::fresh([Masks::none(); STRINGS]),
+                held: [0; STORE],
                 count: 0,
             };
             Outcome {
                 answer: Answer::NothingSettled,
                 used: 0,
-                monitor: monitor,
+                monitor,
             }
         }
     }
 
     // One call.
-    pub fn call(self, piece: &[u8], out: &mut [u8]) -> Outcome
+    pub fn call(self, piece: &[u8], out: &mut [u8]) -> Outcome<Monitor>
         ensures value { result ≡ (call self piece.now out.old).outcome }
         ensures out_after { out.new ≡ (call self piece.now out.old).outbox }
     {
@@ -193,22 +175,19 @@ impl Monitor {
                 monitor: self,
             };
         }
-        let hall = self.hall;
         let mut b = self.held;
         let n = held_count(self.count);
-        clear(&mut b[n..]);
-        let t = turn(hall, &mut b[..], n, piece, 0, out);
-        let answer = t.answer;
-        let next = t.hall;
+        b[n..].fill(0);
+        let t = turn(self.hall, &mut b[..], n, piece, 0, out);
         let monitor = Monitor {
-            hall: next,
+            hall: t.hall,
             held: b,
             count: t.count,
         };
         Outcome {
-            answer: answer,
+            answer: t.answer.unwrap_or(Answer::NothingSettled),
             used: t.used,
-            monitor: monitor,
+            monitor,
         }
     }
 
@@ -228,18 +207,16 @@ impl Monitor {
         let mut hall = self.hall;
         let mut b = self.held;
         let mut count = held_count(self.count);
-        clear(&mut b[count..]);
+        b[count..].fill(0);
         let mut used: usize = 0;
         let mut written: usize = 0;
-        let mut calm = false;
-        let mut jets = [0u32; STRINGS];
-        let mut turned = [0u32; STRINGS];
+        let mut calm: Option<Calm> = None;
         while written + OUTBOX_NEEDED <= out.len() {
-            if calm {
+            if let Some(jets) = calm {
                 let mut left = stretch(hall.n, piece.len() - used, out.len() - written);
                 while 0 < left {
-                    if calm_turn(hall, turned, piece, used, &mut out[written - REPORT..]) {
-                        hall.n = hall.n + 1;
+                    if calm_turn(hall, jets.turned, piece, used, &mut out[written - REPORT..]) {
+                        hall.n += 1;
                         used += MINOR_LENGTH;
                         written += REPORT;
                         left -= 1;
@@ -248,59 +225,44 @@ impl Monitor {
                     // And no `break`: so the loop has one way out.
                     left = 0;
                 }
-                let x = calm_major(
-                    hall,
-                    jets,
-                    turned,
-                    piece,
-                    used,
-                    &mut out[written - REPORT..],
-                );
-                if x.yes {
-                    let h = x.hall;
-                    hall = h;
+                let kept = calm_major(hall, jets, piece, used, &mut out[written - REPORT..]);
+                if let Some(next) = kept {
+                    hall = next;
                     used += MAJOR_LENGTH;
                     written += REPORT;
                     continue;
                 }
             }
             let t = turn(hall, &mut b[..], count, piece, used, &mut out[written..]);
-            let next = t.hall;
-            hall = next;
+            hall = t.hall;
             count = t.count;
             used = t.used;
-            if !t.settled {
+            let Some(answer) = t.answer else {
                 let monitor = Monitor {
-                    hall: hall,
+                    hall,
                     held: b,
-                    count: count,
+                    count,
                 };
                 return Ran {
-                    used: used,
-                    written: written,
+                    used,
+                    written,
                     more: false,
-                    monitor: monitor,
+                    monitor,
                 };
-            }
-            let answer = t.answer;
-            let after = calm_after(answer, count, hall);
-            let plain = after.jets;
-            let words = after.turned;
-            calm = after.yes;
-            jets = plain;
-            turned = words;
+            };
+            calm = calm_after(answer, count, hall);
             written += REPORT;
         }
         let monitor = Monitor {
-            hall: hall,
+            hall,
             held: b,
-            count: count,
+            count,
         };
         Ran {
-            used: used,
-            written: written,
+            used,
+            written,
             more: true,
-            monitor: monitor,
+            monitor,
         }
     }
 }

@@ -1,16 +1,16 @@
 // Calm records: where nothing is under way, a minor record of the next cycle that finds nothing changes the number alone, and a major one
 // that asks for nothing either the number, the good copies and the banks. They are told apart by their bytes, where they lie; no string is
 // stepped, and the report is the one before with another number, and other banks. Minor ones come in stretches, from one major to the next.
-ghost use Rattle.std.specs.Prelude.{◌≡◌, ◌+◌, ◌^◌, ◌<◌, ◌≤◌, true, false, ◌&&◌, ◌++◌, length, take, if◌then◌else◌, ◌==◌, slice_index};
+ghost use Rattle.std.specs.Prelude.{◌≡◌, ◌+◌, ◌^◌, ◌<◌, ◌≤◌, true, false, ◌&&◌, ◌++◌, length, take, if◌then◌else◌, ◌==◌, slice_index, IfSome};
 ghost use Rattle.bits.specs.Bit.{word_bits};
 ghost use Rattle.cycle.specs.Size.{last_count};
 ghost use Rattle.cycle.specs.Numbers.{is_major};
 ghost use Rattle.cycle.specs.Calm.{mapped_words, all_quiet};
 ghost use Rattle.feed.specs.Size.{mark_byte, minor_mark, minor_length, major_length, report_length};
 ghost use Rattle.feed.specs.Values.{minor_of};
-ghost use Rattle.feed.specs.Inside.Calm.{Words, turned_sample, turned_words, TurnedJets, passes, passes_at, renumbered, told_again, calm_after};
-ghost use Rattle.feed.specs.Inside.Calm.{least, minors_ahead, stretch};
-ghost use Rattle.feed.specs.Inside.Calm.{none_asked, all_still, major_passes, major_passes_at, rebanked, told_kept, kept_by};
+ghost use Rattle.feed.specs.Inside.Calm.{Words, turned_sample, turned_words, TurnedJets, CalmOf, passes, passes_at, renumbered, told_again, calm_after};
+ghost use Rattle.feed.specs.Inside.Calm.{minors_ahead, stretch};
+ghost use Rattle.feed.specs.Inside.Calm.{none_asked, all_still, major_passes, major_passes_at, rebanked, kept_by, told_by};
 
 use crate::bytes::{low_two_at, put_four, turned32, two_at};
 use crate::format::{good_major, good_minor};
@@ -30,32 +30,18 @@ use cycle::number::follows;
 use cycle::size::{LAST_COUNT, MAJOR_EVERY, MODULES, STRINGS};
 use cycle::values::{Requests, Sample};
 
-// Whether calm records can follow, and then each string's mapped jets, as numbers and with the bytes in the order of a record.
+// What is carried on while calm records can follow: each string's mapped jets, as numbers and with the bytes in the order of a record.
 #[derive(Clone, Copy)]
 pub struct Calm {
-    pub yes: bool,
     pub jets: [u32; STRINGS],
     pub turned: [u32; STRINGS],
-}
-
-// What a major record that may be calm leaves: whether it is, and the hall.
-#[derive(Clone, Copy)]
-pub struct Kept {
-    pub yes: bool,
-    pub hall: Hall,
 }
 
 // The words with their bytes in the other order.
 fn turned_words(words: [u32; STRINGS]) -> [u32; STRINGS]
     ensures { (result ≡ turned_words words) × Words words }
 {
-    let mut turned = words;
-    let mut s: usize = 0;
-    while s < STRINGS {
-        turned[s] = turned32(words[s]);
-        s += 1;
-    }
-    turned
+    words.map(|w| turned32(w))
 }
 
 // The sample with its commanded and pressure words as they stand in the record: so the compiler need not turn them.
@@ -70,27 +56,16 @@ fn turned_sample(x: Sample) -> Sample
     }
 }
 
-// After a record with this answer, that left `count` bytes in the store and this hall.
-pub(crate) fn calm_after(answer: Answer, count: usize, hall: Hall) -> Calm
-    ensures { (result ≡ calm_after answer count hall) × (result.yes ≡ true → Words (mapped_words hall.masks)) }
+// After a record with this answer, that left `count` bytes in the store and this hall: none where no calm one can follow.
+pub(crate) fn calm_after(answer: Answer, count: usize, hall: Hall) -> Option<Calm>
+    ensures { (result ≡ calm_after answer count hall) × IfSome result (CalmOf hall) }
 {
-    let strings = hall.strings;
-    if answer.is_taken() & ((count == 0) & all_calm(strings)) {
-        let masks = hall.masks;
-        let jets = mapped_words(masks);
-        let words = turned_words(jets);
-        Calm {
-            yes: true,
-            jets: jets,
-            turned: words,
-        }
+    if answer.is_taken() & ((count == 0) & all_calm(hall.strings)) {
+        let jets = mapped_words(hall.masks);
+        let turned = turned_words(jets);
+        Some(Calm { jets, turned })
     } else {
-        let none = [0u32; STRINGS];
-        Calm {
-            yes: false,
-            jets: none,
-            turned: none,
-        }
+        None
     }
 }
 
@@ -100,23 +75,12 @@ fn all_quiet(hall: Hall, turned: [u32; STRINGS], s: &[u8]) -> bool
     requires turned_jets { TurnedJets hall turned }
     ensures { result ≡ all_quiet (minor_of s.now) hall }
 {
-    let strings = hall.strings;
     let mut found = true;
-    let mut k: usize = 0;
-    while k < STRINGS {
-        let string = strings[k];
+    for k in 0..STRINGS {
         let sample = sample_at(s, SAMPLES_FROM + SAMPLE_LENGTH * k);
-        found = found & string.is_quiet(turned[k], turned_sample(sample));
-        k += 1;
+        found &= hall.strings[k].is_quiet(turned[k], turned_sample(sample));
     }
     (s[PATH_AT] == 0) & found
-}
-
-// The least of two.
-fn least(a: usize, b: usize) -> usize
-    ensures { result ≡ least a b }
-{
-    if a < b { a } else { b }
 }
 
 // How many minor cycles come after number n, before the next major one; none where the count may end among them.
@@ -138,7 +102,7 @@ pub(crate) fn stretch(n: u32, fed: usize, room: usize) -> usize
         return 0;
     }
     let reports = (room - OUTBOX_NEEDED) / REPORT;
-    least(minors_ahead(n), least(fed / MINOR_LENGTH, reports))
+    minors_ahead(n).min((fed / MINOR_LENGTH).min(reports))
 }
 
 // Is the mark at the front a minor record's? Both bytes at once.
@@ -173,12 +137,7 @@ fn repeat(s: &mut [u8])
     requires { length s.old ≡ report_length + report_length }
     ensures { s.new ≡ take report_length s.old ++ take report_length s.old }
 {
-    let mut i: usize = 0;
-    while i < REPORT {
-        let v = s[i];
-        s[REPORT + i] = v;
-        i += 1;
-    }
+    s.copy_within(..REPORT, REPORT);
 }
 
 // And there with another number.
@@ -220,45 +179,35 @@ fn none_asked(s: &[u8]) -> bool
     ensures { result ≡ none_asked s.now }
 {
     let mut none = true;
-    let mut i: usize = 0;
-    while i < QUANTITIES_FROM - REQUESTS_FROM {
-        none = none & (s[REQUESTS_FROM + i] == 0);
-        i += 1;
+    for b in &s[REQUESTS_FROM..QUANTITIES_FROM] {
+        none &= *b == 0;
     }
     none
 }
 
 // Does no string find anything in any step, where the record asks for nothing, but what its temperatures say? One loop for all steps, and
 // none shared with minor records: each has a single caller, so that the compiler leaves the hall where it is.
-fn all_still(hall: Hall, jets: [u32; STRINGS], turned: [u32; STRINGS], s: &[u8]) -> bool
+fn all_still(hall: Hall, calm: Calm, s: &[u8]) -> bool
     requires major_length_in_bounds { (major_length ≤ length s.now) × (none_asked s.now ≡ true) }
-    requires jets_value { (jets ≡ mapped_words hall.masks) × TurnedJets hall turned }
+    requires jets_value { CalmOf hall calm }
     ensures { result ≡ all_still hall s.now }
 {
-    let none = Requests {
-        inhibit: 0,
-        reenable: 0,
-        drop: 0,
-    };
-    let strings = hall.strings;
+    let none = Requests::default();
     let mut quiet = true;
     let mut still = true;
-    let mut k: usize = 0;
-    while k < STRINGS {
-        let string = strings[k];
-        let on = string.on;
+    for k in 0..STRINGS {
+        let string = hall.strings[k];
         let sample = sample_at(s, SAMPLES_FROM + SAMPLE_LENGTH * k);
-        quiet = quiet & string.is_quiet(turned[k], turned_sample(sample));
-        still = still & finds_none(on, string.close, jets[k], sample, none);
-        k += 1;
+        quiet &= string.is_quiet(calm.turned[k], turned_sample(sample));
+        still &= finds_none(string.on, string.close, calm.jets[k], sample, none);
     }
     (s[PATH_AT] == 0) & quiet & still
 }
 
 // Are the bytes a good major record of the next cycle that finds nothing and asks for nothing?
-fn major_passes(hall: Hall, jets: [u32; STRINGS], turned: [u32; STRINGS], s: &[u8]) -> bool
+fn major_passes(hall: Hall, calm: Calm, s: &[u8]) -> bool
     requires s_len { length s.now ≡ major_length }
-    requires jets_value { (jets ≡ mapped_words hall.masks) × TurnedJets hall turned }
+    requires jets_value { CalmOf hall calm }
     ensures { result ≡ major_passes hall s.now }
 {
     if s[0] != MARK {
@@ -273,10 +222,10 @@ fn major_passes(hall: Hall, jets: [u32; STRINGS], turned: [u32; STRINGS], s: &[u
     if !none_asked(s) {
         return false;
     }
-    if !all_still(hall, jets, turned, s) {
+    if !all_still(hall, calm, s) {
         return false;
     }
-    if some_leaks(jets, s) {
+    if some_leaks(calm.jets, s) {
         return false;
     }
     good_major(s)
@@ -295,36 +244,25 @@ fn tell_banks(s: &mut [u8], n: u32, banks: [Bank; MODULES])
 // and its report is written behind the one before, with which the outbox begins.
 pub(crate) fn calm_major(
     hall: Hall,
-    jets: [u32; STRINGS],
-    turned: [u32; STRINGS],
+    calm: Calm,
     piece: &[u8],
     from: usize,
     out: &mut [u8],
-) -> Kept
+) -> Option<Hall>
     requires from_in_bounds { (from ≤ length piece.now) × (report_length + report_length ≤ length out.old) }
-    requires jets_value { (jets ≡ mapped_words hall.masks) × TurnedJets hall turned }
+    requires jets_value { CalmOf hall calm }
     ensures value { result ≡ kept_by (major_passes_at hall from piece.now) hall from piece.now }
-    ensures out_after { out.new ≡ (if result.yes then told_kept result.hall out.old else out.old) }
+    ensures out_after { out.new ≡ told_by result out.old }
 {
     if piece.len() - from < MAJOR_LENGTH {
-        return Kept {
-            yes: false,
-            hall: hall,
-        };
+        return None;
     }
     let s = &piece[from..from + MAJOR_LENGTH];
-    if !major_passes(hall, jets, turned, s) {
-        return Kept {
-            yes: false,
-            hall: hall,
-        };
+    if !major_passes(hall, calm, s) {
+        return None;
     }
     let mut next = hall.kept_all(quantities_of(s));
-    next.n = next.n + 1;
-    let banks = next.banks;
-    tell_banks(&mut out[..REPORT + REPORT], next.n, banks);
-    Kept {
-        yes: true,
-        hall: next,
-    }
+    next.n += 1;
+    tell_banks(&mut out[..REPORT + REPORT], next.n, next.banks);
+    Some(next)
 }

@@ -5,7 +5,7 @@ ghost use Rattle.feed.specs.Format.{mark_of, length_of, length_marked, sum_of, r
 ghost use Rattle.feed.specs.Format.{good_minor, good_major, good_kind, full_look, look};
 ghost use Rattle.feed.specs.declared.format.Look.TheVariants.{Loses, Settles};
 
-use crate::bytes::{two_at, wide16};
+use crate::bytes::two_at;
 use crate::size::{
     MAJOR_LENGTH, MAJOR_MARK, MAJOR_SUMMED, MARK, MINOR_LENGTH, MINOR_MARK, MINOR_SUMMED,
     MOST_QUANTITY, PATH_AT, QUANTITIES_FROM, QUANTITIES_LENGTH, QUANTITY_LENGTH, RESERVED_FROM,
@@ -13,17 +13,10 @@ use crate::size::{
 use cycle::size::MODULES;
 
 // The kinds of records. Their rows: `mark_of`, `length_of` and `good`.
-#[derive(Clone, Copy)]
+#[derive(Clone, Copy, Debug, PartialEq, Eq)]
 pub enum Kind {
     Minor,
     Major,
-}
-
-// What the second byte makes of a mark: none, or the mark of a kind.
-#[derive(Clone, Copy)]
-pub enum Mark {
-    NoMark,
-    Of(Kind),
 }
 
 // What the oldest byte held is: it cannot begin a mark and is dropped; it begins a mark, or a record that is not complete; it begins a full
@@ -50,17 +43,15 @@ const MINOR_MIDDLE: usize = MINOR_LAST - SPAN / 2;
 
 const MAJOR_LAST: usize = MAJOR_SUMMED - SPAN;
 
-// What this second byte makes of a mark.
-pub(crate) fn mark_of(b: u8) -> Mark
+// What this second byte makes of a mark: that of a kind, or none.
+pub(crate) fn mark_of(b: u8) -> Option<Kind>
     ensures { result ≡ mark_of b }
 {
-    if b == MINOR_MARK {
-        return Mark::Of(Kind::Minor);
+    match b {
+        MINOR_MARK => Some(Kind::Minor),
+        MAJOR_MARK => Some(Kind::Major),
+        _ => None,
     }
-    if b == MAJOR_MARK {
-        return Mark::Of(Kind::Major);
-    }
-    Mark::NoMark
 }
 
 // A record's length by its kind.
@@ -74,12 +65,12 @@ pub(crate) fn length_of(k: Kind) -> usize
 }
 
 // The length that a mark announces, 0 where there is none.
-pub(crate) fn length_marked(m: Mark) -> usize
+pub(crate) fn length_marked(m: Option<Kind>) -> usize
     ensures { result ≡ length_marked m }
 {
     match m {
-        Mark::NoMark => 0,
-        Mark::Of(k) => length_of(k),
+        None => 0,
+        Some(k) => length_of(k),
     }
 }
 
@@ -88,10 +79,8 @@ pub fn sum(s: &[u8]) -> u16
     ensures { result ≡ sum_of s.now }
 {
     let mut t: u16 = 0;
-    let mut i: usize = 0;
-    while i < s.len() {
-        t = std::num::wrapping_add_u16(t, wide16(s[i]));
-        i += 1;
+    for byte in s {
+        t = t.wrapping_add(u16::from(*byte));
     }
     t
 }
@@ -100,13 +89,13 @@ pub fn sum(s: &[u8]) -> u16
 fn sum_by_spans(s: &[u8]) -> u16
     ensures { result ≡ sum_of s.now }
 {
+    let spans = s.chunks_exact(LONG_SPAN);
+    let rest = spans.remainder();
     let mut t: u16 = 0;
-    let mut at: usize = 0;
-    while LONG_SPAN <= s.len() - at {
-        t = std::num::wrapping_add_u16(t, sum(&s[at..at + LONG_SPAN]));
-        at += LONG_SPAN;
+    for span in spans {
+        t = t.wrapping_add(sum(span));
     }
-    std::num::wrapping_add_u16(t, sum(&s[at..]))
+    t.wrapping_add(sum(rest))
 }
 
 // Are the reserved bits of the path byte zero?
@@ -131,10 +120,8 @@ fn quantities_right(s: &[u8]) -> bool
     ensures { result ≡ quantities_right s.now }
 {
     let mut right = true;
-    let mut m: usize = 0;
-    while m < MODULES {
-        right = right & module_right(s, QUANTITIES_FROM + QUANTITIES_LENGTH * m);
-        m += 1;
+    for m in 0..MODULES {
+        right &= module_right(s, QUANTITIES_FROM + QUANTITIES_LENGTH * m);
     }
     right
 }
@@ -144,16 +131,13 @@ pub(crate) fn good_minor(s: &[u8]) -> bool
     requires { minor_length ≤ length s.now }
     ensures { result ≡ good_minor s.now }
 {
-    let rest = std::num::wrapping_sub_u16(
-        two_at(s, MINOR_SUMMED),
-        sum(&s[MINOR_LAST..MINOR_SUMMED]),
-    );
+    let rest = two_at(s, MINOR_SUMMED).wrapping_sub(sum(&s[MINOR_LAST..MINOR_SUMMED]));
     let middle = sum(&s[MINOR_MIDDLE..MINOR_LAST]);
     // The sum of the bytes before the last span does not wrap, so less than that of the middle one is wrong; and the branch parts the two.
     if rest < middle {
         return false;
     }
-    if std::num::wrapping_sub_u16(rest, middle) != sum(&s[..MINOR_MIDDLE]) {
+    if rest.wrapping_sub(middle) != sum(&s[..MINOR_MIDDLE]) {
         return false;
     }
     reserved_zero(s)
@@ -168,10 +152,7 @@ pub(crate) fn good_major(s: &[u8]) -> bool
     if !reserved_zero(s) {
         return false;
     }
-    let rest = std::num::wrapping_sub_u16(
-        two_at(s, MAJOR_SUMMED),
-        sum(&s[MAJOR_LAST..MAJOR_SUMMED]),
-    );
+    let rest = two_at(s, MAJOR_SUMMED).wrapping_sub(sum(&s[MAJOR_LAST..MAJOR_SUMMED]));
     if rest != sum_by_spans(&s[..MAJOR_LAST]) {
         return false;
     }
@@ -225,7 +206,7 @@ pub(crate) fn look_at(s: &[u8]) -> Look
     }
     let mark = mark_of(s[1]);
     match mark {
-        Mark::NoMark => Look::Drops,
-        Mark::Of(k) => full_look(k, s),
+        None => Look::Drops,
+        Some(k) => full_look(k, s),
     }
 }

@@ -3,7 +3,8 @@ ghost use Rattle.std.specs.Prelude.{◌≡◌, []};
 ghost use Rattle.feed.specs.Handed.{reader_of, handed};
 
 use crate::call::{found_bytes, removed};
-use crate::reader::{clear, find, held_count};
+use crate::format::{Kind, length_of};
+use crate::reader::{find, held_count};
 use crate::size::STORE;
 use crate::values::padded;
 
@@ -14,12 +15,12 @@ pub struct Reader {
     pub count: usize,
 }
 
-// What is handed out: the settled record's length, 0 where nothing was settled, and its bytes, 0 in the places behind them; the bytes of
-// the piece used; and the reader that goes on.
+// What is handed out: the settled record's kind, if one was settled, and its bytes, 0 in the places behind them; the bytes of the piece used;
+// and the reader that goes on.
 #[derive(Clone, Copy)]
 pub struct Handed {
     pub used: usize,
-    pub long: usize,
+    pub settled: Option<Kind>,
     pub bytes: [u8; STORE],
     pub reader: Reader,
 }
@@ -29,9 +30,8 @@ impl Reader {
     pub fn empty() -> Reader
         ensures { result ≡ reader_of [] }
     {
-        let held = [0u8; STORE];
         Reader {
-            held: held,
+            held: [0; STORE],
             count: 0,
         }
     }
@@ -42,36 +42,32 @@ impl Reader {
     {
         let mut b = self.held;
         let n = held_count(self.count);
-        clear(&mut b[n..]);
+        b[n..].fill(0);
         let f = find(&mut b[..], n, piece, 0);
-        let long = f.long;
-        let held = f.held;
-        let count = f.count;
-        let at = f.at;
-        if long == 0 {
-            let none = [0u8; STORE];
+        let Some(kind) = f.settled else {
             let reader = Reader {
                 held: b,
-                count: count,
+                count: f.count,
             };
             return Handed {
                 used: f.used,
-                long: 0,
-                bytes: none,
-                reader: reader,
+                settled: None,
+                bytes: [0; STORE],
+                reader,
             };
-        }
-        let bytes = padded(found_bytes(&b[..], piece, held, at, long));
-        let left = removed(&mut b[..], held, count, long);
+        };
+        let long = length_of(kind);
+        let bytes = padded(found_bytes(&b[..], piece, f.at, long));
+        let left = removed(&mut b[..], f.at, f.count, long);
         let reader = Reader {
             held: b,
             count: left,
         };
         Handed {
             used: f.used,
-            long: long,
-            bytes: bytes,
-            reader: reader,
+            settled: Some(kind),
+            bytes,
+            reader,
         }
     }
 }

@@ -8,32 +8,21 @@ ghost use Rattle.feed.specs.Inside.MapWords.{WordMasks};
 use crate::bytes::read_four;
 use crate::size::{MASKS_LENGTH, WORD_LENGTH};
 use cycle::map::Masks;
-use cycle::size::{MANIFOLDS, STRINGS};
+use cycle::size::STRINGS;
+use std::array;
 
 // One string's masks, from `i` on.
 fn masks_at(s: &[u8], i: usize) -> Masks
     requires { i ≤ map_length }
     ensures { (result ≡ masks_at s.now i) × WordMasks result.words }
 {
-    let mut words = [0u32; MANIFOLDS];
-    let mut k: usize = 0;
-    while k < MANIFOLDS {
-        words[k] = read_four(s, i + WORD_LENGTH * k);
-        k += 1;
-    }
-    Masks { words: words }
+    let words = array::from_fn(|k| read_four(s, i + WORD_LENGTH * k));
+    Masks { words }
 }
 
 // All strings' masks. Bytes past the end are 0. That they are words is what the laws about a map ask.
 pub fn masks_of(s: &[u8]) -> [Masks; STRINGS]
     ensures { (result ≡ masks_of_bytes s.now) × FitMap result }
 {
-    let none = Masks::none();
-    let mut all = [none; STRINGS];
-    let mut k: usize = 0;
-    while k < STRINGS {
-        all[k] = masks_at(s, MASKS_LENGTH * k);
-        k += 1;
-    }
-    all
+    array::from_fn(|k| masks_at(s, MASKS_LENGTH * k))
 }

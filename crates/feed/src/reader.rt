@@ -6,23 +6,22 @@ ghost use Rattle.feed.specs.Reader.{store, held_count};
 ghost use Rattle.feed.specs.Settled.{front_of};
 ghost use Rattle.feed.specs.Inside.Finding.{calm_of, noise, all_noise, filled, held_from, Searched, Finds};
 
-use crate::format::{Look, Mark, good, length_marked, length_of, look_at, mark_of};
+use crate::format::{Kind, Look, good, length_marked, length_of, look_at, mark_of};
 use crate::size::{MARK, MARK_LENGTH, MOST_HELD};
 
-// The first byte that is not dropped, and the length of the record settled there, 0 where there is none.
+// The first byte that is not dropped, and the kind of the record settled there, if there is one.
 #[derive(Clone, Copy)]
 pub struct Front {
     pub at: usize,
-    pub long: usize,
+    pub settled: Option<Kind>,
 }
 
-// How long the next record is, and where: in the store, from its first byte on, or in the piece from `at` on; how many bytes the store then
-// holds, and how many bytes of the piece are used. A length of 0: nothing was settled, and what is left is in the store.
+// Of which kind the next record is, if one was settled, and where it stands, or what is left: in the piece from `at` on, or, where there is no
+// such place, in the store from its first byte on; how many bytes the store then holds, and how many bytes of the piece are used.
 #[derive(Clone, Copy)]
 pub struct Found {
-    pub long: usize,
-    pub held: bool,
-    pub at: usize,
+    pub settled: Option<Kind>,
+    pub at: Option<usize>,
     pub count: usize,
     pub used: usize,
 }
@@ -34,51 +33,24 @@ const STRIDE: usize = 16;
 pub fn find_front(s: &[u8]) -> Front
     ensures { result ≡ front_of s.now }
 {
-    let mut at: usize = 0;
-    while at < s.len() {
+    for at in 0..s.len() {
         match look_at(&s[at..]) {
-            Look::Drops => {
-                at += 1;
-            }
+            Look::Drops => {}
+            Look::Loses => {} // only the first byte: a record may begin at the next
             Look::Waits => {
-                return Front { at: at, long: 0 };
-            }
-            Look::Loses => {
-                at += 1; // only the first byte: a record may begin at the next
+                return Front { at, settled: None };
             }
             Look::Settles(k) => {
                 return Front {
-                    at: at,
-                    long: length_of(k),
+                    at,
+                    settled: Some(k),
                 };
             }
         }
     }
-    Front { at: at, long: 0 }
-}
-
-// The bytes from `k` on go to the front; the last `k` places stay.
-fn move_down(s: &mut [u8], k: usize)
-    requires { k ≤ length s.old }
-    ensures { s.new ≡ drop k s.old ++ drop (length s.old - k) s.old }
-{
-    let m = s.len() - k;
-    let mut i: usize = 0;
-    while i < m {
-        let v = s[i + k];
-        s[i] = v;
-        i += 1;
-    }
-}
-
-// Every place becomes 0.
-pub(crate) fn clear(s: &mut [u8])
-    ensures { s.new ≡ replicate (length s.old) 0 }
-{
-    let mut i: usize = 0;
-    while i < s.len() {
-        s[i] = 0;
-        i += 1;
+    Front {
+        at: s.len(),
+        settled: None,
     }
 }
 
@@ -87,20 +59,9 @@ pub(crate) fn shift(s: &mut [u8], k: usize)
     requires { k ≤ length s.old }
     ensures { s.new ≡ drop k s.old ++ replicate k 0 }
 {
-    move_down(s, k);
+    s.copy_within(k.., 0);
     let m = s.len() - k;
-    clear(&mut s[m..]);
-}
-
-pub(crate) fn copy(to: &mut [u8], from: &[u8])
-    requires { length to.old ≡ length from.now }
-    ensures { to.new ≡ from.now }
-{
-    let mut i: usize = 0;
-    while i < to.len() {
-        to[i] = from[i];
-        i += 1;
-    }
+    s[m..].fill(0);
 }
 
 // How many of the next `left` bytes can be taken with no look: those that a mark at the front waits for, but the last.
@@ -117,11 +78,7 @@ fn calm(s: &[u8], left: usize) -> usize
     if n <= s.len() {
         return 0;
     }
-    let k = n - s.len() - 1;
-    if k <= left {
-        return k;
-    }
-    left
+    left.min(n - s.len() - 1)
 }
 
 // How many bytes a state that claims `count` holds.
@@ -136,10 +93,8 @@ fn all_noise(s: &[u8]) -> bool
     ensures { result ≡ all_noise s.now }
 {
     let mut noise = true;
-    let mut i: usize = 0;
-    while i < s.len() {
-        noise = noise & (s[i] != MARK);
-        i += 1;
+    for b in s {
+        noise &= *b != MARK;
     }
     noise
 }
@@ -150,23 +105,17 @@ fn next_mark(piece: &[u8], from: usize) -> usize
     ensures { result ≡ from + noise (drop from piece.now) }
 {
     let mut at = from;
-    while STRIDE <= piece.len() - at {
-        if !all_noise(&piece[at..at + STRIDE]) {
-            break;
-        }
+    while STRIDE <= piece.len() - at && all_noise(&piece[at..at + STRIDE]) {
         at += STRIDE;
     }
-    while at < piece.len() {
-        if piece[at] == MARK {
-            return at;
-        }
+    while at < piece.len() && piece[at] != MARK {
         at += 1;
     }
     at
 }
 
 // By way of the store, as long as it holds a byte that came before the piece: settles what it holds, then takes bytes of the piece from
-// `from` on. Where it holds none any more, what it holds stands in the piece from `at` on, and no record is found yet.
+// `from` on. Where it holds none any more, what it holds stands in the piece from `at` on as well, and no record is found yet.
 fn fill(b: &mut [u8], count: usize, piece: &[u8], from: usize) -> Found
     requires b_len { length b.old ≡ store_length }
     requires count_le_most_held { (count ≤ most_held) × (b.old ≡ store (take count b.old)) × (from ≤ length piece.now) }
@@ -177,53 +126,49 @@ fn fill(b: &mut [u8], count: usize, piece: &[u8], from: usize) -> Found
     let mut used = from;
     loop {
         let f = find_front(&b[..n]);
-        let at = f.at;
-        let long = f.long;
-        if 0 < at {
-            shift(&mut b[..n], at);
-            n -= at;
+        if 0 < f.at {
+            shift(&mut b[..n], f.at);
+            n -= f.at;
         }
         if n <= used - from {
             return Found {
-                long: 0,
-                held: false,
-                at: used - n,
+                settled: None,
+                at: Some(used - n),
                 count: n,
-                used: used,
+                used,
             };
         }
-        if (0 < long) | (used == piece.len()) {
+        if f.settled.is_some() | (used == piece.len()) {
             return Found {
-                long: long,
-                held: true,
-                at: 0,
+                settled: f.settled,
+                at: None,
                 count: n,
-                used: used,
+                used,
             };
         }
         b[n] = piece[used];
         n += 1;
         used += 1;
         let k = calm(&b[..n], piece.len() - used);
-        copy(&mut b[n..n + k], &piece[used..used + k]);
+        b[n..n + k].copy_from_slice(&piece[used..used + k]);
         n += k;
         used += k;
     }
 }
 
-// The bytes of the piece from `at` to `end` are those held, a record of `long` bytes at their front: they go to the store, which is empty.
-fn hold(b: &mut [u8], piece: &[u8], at: usize, end: usize, long: usize) -> Found
+// The bytes of the piece from `at` to `end` are those held, a record of this kind at their front, or none: they go to the store, which is
+// empty.
+fn hold(b: &mut [u8], piece: &[u8], at: usize, end: usize, settled: Option<Kind>) -> Found
     requires b_value { b.old ≡ store [] }
     requires at_le_end { (at ≤ end) × (end ≤ length piece.now) × (end - at ≤ store_length) }
-    ensures value { result ≡ held_from at end long }
+    ensures value { result ≡ held_from at end settled }
     ensures b_after { b.new ≡ store (take (end - at) (drop at piece.now)) }
 {
     let n = end - at;
-    copy(&mut b[..n], &piece[at..end]);
+    b[..n].copy_from_slice(&piece[at..end]);
     Found {
-        long: long,
-        held: true,
-        at: 0,
+        settled,
+        at: None,
         count: n,
         used: end,
     }
@@ -247,39 +192,37 @@ fn search(b: &mut [u8], piece: &[u8], from: usize, taken: usize) -> Found
             break;
         }
         match mark_of(piece[at + 1]) {
-            Mark::NoMark => {
+            None => {
                 at += 1;
             }
-            Mark::Of(k) => {
+            Some(k) => {
                 let long = length_of(k);
                 if piece.len() - at < long {
                     break;
                 }
                 let end = at + long;
+                high = high.max(end);
                 if good(k, &piece[at..end]) {
                     if end < high {
-                        return hold(b, piece, at, high, long);
+                        return hold(b, piece, at, high, Some(k));
                     }
                     return Found {
-                        long: long,
-                        held: false,
-                        at: at,
+                        settled: Some(k),
+                        at: Some(at),
                         count: 0,
                         used: end,
                     };
-                }
-                if high < end {
-                    high = end;
                 }
                 at += 1; // a record may begin at the next byte
             }
         }
     }
-    hold(b, piece, at, piece.len(), 0)
+    hold(b, piece, at, piece.len(), None)
 }
 
 // The next record. Bytes are copied only where they have to wait for the next piece, where some came with an earlier one, or where bytes
-// behind the record are taken already.
+// behind the record are taken already. Not a part of the run's code: there its loops would want for registers.
+#[inline(never)]
 pub(crate) fn find(b: &mut [u8], count: usize, piece: &[u8], from: usize) -> Found
     requires b_len { length b.old ≡ store_length }
     requires count_le_most_held { (count ≤ most_held) × (b.old ≡ store (take count b.old)) × (from ≤ length piece.now) }
@@ -289,12 +232,11 @@ pub(crate) fn find(b: &mut [u8], count: usize, piece: &[u8], from: usize) -> Fou
     let mut taken = from;
     if 0 < count {
         let f = fill(b, count, piece, from);
-        if f.held {
+        let Some(place) = f.at else {
             return f;
-        }
-        let n = f.count;
-        clear(&mut b[..n]);
-        at = f.at;
+        };
+        b[..f.count].fill(0);
+        at = place;
         taken = f.used;
     }
     search(b, piece, at, taken)

@@ -1,28 +1,36 @@
 // The report, written into the outbox part by part.
-ghost use Rattle.std.specs.Prelude.{◌≡◌, ◌≤◌, ◌++◌, length, take, drop};
+ghost use Rattle.std.specs.Prelude.{◌≡◌, ◌+◌, ◌*◌, ◌≤◌, ◌++◌, length, take, drop, slice_index};
 ghost use Rattle.cycle.specs.Size.{module_count};
-ghost use Rattle.feed.specs.Size.{strings_from, string_part, balance_at, lesser_from, differences_from, report_length};
+ghost use Rattle.feed.specs.Bytes.{in_two, parts};
+ghost use Rattle.feed.specs.Size.{strings_from, string_part, balance_at, lesser_from, differences_from, quantity_length, report_length};
 ghost use Rattle.feed.specs.Report.{head_of, string_bytes, strings_bytes, balance_of, lesser_bytes, differences_bytes, banks_bytes};
 ghost use Rattle.feed.specs.Inside.Showing.{shown_of};
-ghost use Rattle.feed.specs.Report.{word_at, report_of, report_shown, fits_in, into_outbox, report_over};
+ghost use Rattle.feed.specs.Report.{fail_shown, close_shown, report_of, report_shown, fits_in, into_outbox, report_over};
 
 use crate::bytes::{put_four, put_two};
 use crate::size::{
-    ANSWER_AT, BALANCE_AT, COUNT_AT, DIFFERENCE_LENGTH, DIFFERENCES_FROM, LESSER_FROM,
-    LESSER_LENGTH, MARK, OXIDIZER_FROM, REPORT, STRING_PART, STRINGS_FROM, WORD_LENGTH,
+    ANSWER_AT, BALANCE_AT, COUNT_AT, DIFFERENCES_FROM, LESSER_FROM, MARK, OXIDIZER_FROM,
+    QUANTITY_LENGTH, REPORT, STRING_PART, STRINGS_FROM, WORD_LENGTH,
 };
 use bits::with_bit;
 use cycle::answer::Answer;
 use cycle::banks::Bank;
 use cycle::hall::Hall;
 use cycle::size::{MODULES, STRINGS};
+use std::array;
 
-// What a report shows: n, each string's fail word and close bits, and the banks.
+// What a report shows of a string: its fail word and close bits.
+#[derive(Clone, Copy)]
+pub struct StringShown {
+    pub fail: u32,
+    pub close: u32,
+}
+
+// What a report shows: n, each string, and the banks.
 #[derive(Clone, Copy)]
 pub struct Shown {
     pub n: u32,
-    pub fails: [u32; STRINGS],
-    pub closes: [u32; STRINGS],
+    pub strings: [StringShown; STRINGS],
     pub banks: [Bank; MODULES],
 }
 
@@ -38,12 +46,12 @@ fn put_head(s: &mut [u8], answer: u8, n: u32)
 }
 
 // A string's five bytes, into their own part of the outbox.
-fn put_string(s: &mut [u8], fail: u32, close: u32)
+fn put_string(s: &mut [u8], x: StringShown)
     requires { length s.old ≡ string_part }
-    ensures { s.new ≡ string_bytes fail close }
+    ensures { s.new ≡ string_bytes x.fail x.close }
 {
-    put_four(&mut s[0..WORD_LENGTH], fail);
-    s[WORD_LENGTH] = (close % 256) as u8;
+    put_four(&mut s[0..WORD_LENGTH], x.fail);
+    s[WORD_LENGTH] = (x.close % 256) as u8;
 }
 
 // The balance byte's bits.
@@ -51,26 +59,33 @@ fn balance_of(banks: [Bank; MODULES]) -> u32
     ensures { result ≡ balance_of module_count banks }
 {
     let mut w: u32 = 0;
-    let mut m: usize = 0;
-    while m < MODULES {
-        let b = banks[m];
-        w = with_bit(w, m, b.unbalanced);
-        w = with_bit(w, OXIDIZER_FROM + m, b.oxidizer);
-        m += 1;
+    for m in 0..MODULES {
+        w = with_bit(w, m, banks[m].unbalanced);
+        w = with_bit(w, OXIDIZER_FROM + m, banks[m].oxidizer);
     }
     w
 }
 
 // The parts of all strings.
-fn put_strings(out: &mut [u8], fails: [u32; STRINGS], closes: [u32; STRINGS])
+fn put_strings(out: &mut [u8], strings: [StringShown; STRINGS])
     requires { report_length ≤ length out.old }
-    ensures { out.new ≡ take strings_from out.old ++ (strings_bytes (word_at fails) (word_at closes) ++ drop balance_at out.old) }
+    ensures { out.new ≡ take strings_from out.old ++ (strings_bytes (fail_shown strings) (close_shown strings) ++ drop balance_at out.old) }
 {
-    let mut s: usize = 0;
-    while s < STRINGS {
+    for s in 0..STRINGS {
         let a = STRINGS_FROM + STRING_PART * s;
-        put_string(&mut out[a..a + STRING_PART], fails[s], closes[s]);
-        s += 1;
+        put_string(&mut out[a..a + STRING_PART], strings[s]);
+    }
+}
+
+// A number of two bytes for each module, from place `from` on.
+fn put_words(out: &mut [u8], from: usize, words: [u16; MODULES])
+    requires { from + quantity_length * module_count ≤ length out.old }
+    ensures { out.new ≡ take from out.old
+        ++ (parts module_count (λ m. in_two (slice_index words m)) ++ drop (from + quantity_length * module_count) out.old) }
+{
+    for m in 0..MODULES {
+        let a = from + QUANTITY_LENGTH * m;
+        put_two(&mut out[a..a + QUANTITY_LENGTH], words[m]);
     }
 }
 
@@ -79,13 +94,7 @@ fn put_lesser(out: &mut [u8], banks: [Bank; MODULES])
     requires { report_length ≤ length out.old }
     ensures { out.new ≡ take lesser_from out.old ++ (lesser_bytes banks ++ drop differences_from out.old) }
 {
-    let mut m: usize = 0;
-    while m < MODULES {
-        let a = LESSER_FROM + LESSER_LENGTH * m;
-        let b = banks[m];
-        put_two(&mut out[a..a + LESSER_LENGTH], b.lesser);
-        m += 1;
-    }
+    put_words(out, LESSER_FROM, banks.map(|b| b.lesser));
 }
 
 // The differences of all modules.
@@ -93,13 +102,7 @@ fn put_differences(out: &mut [u8], banks: [Bank; MODULES])
     requires { report_length ≤ length out.old }
     ensures { out.new ≡ take differences_from out.old ++ (differences_bytes banks ++ drop report_length out.old) }
 {
-    let mut m: usize = 0;
-    while m < MODULES {
-        let a = DIFFERENCES_FROM + DIFFERENCE_LENGTH * m;
-        let b = banks[m];
-        put_two(&mut out[a..a + DIFFERENCE_LENGTH], b.difference);
-        m += 1;
-    }
+    put_words(out, DIFFERENCES_FROM, banks.map(|b| b.difference));
 }
 
 // The balance byte, the lesser quantities and the differences.
@@ -118,34 +121,21 @@ fn write_shown(out: &mut [u8], answer: Answer, x: Shown)
     ensures { out.new ≡ report_shown answer x ++ drop report_length out.old }
 {
     put_head(&mut out[0..STRINGS_FROM], answer.number(), x.n);
-    let fails = x.fails;
-    let closes = x.closes;
-    put_strings(out, fails, closes);
-    let banks = x.banks;
-    put_banks(out, banks);
+    put_strings(out, x.strings);
+    put_banks(out, x.banks);
 }
 
 // What a report shows of a hall.
 fn shown_of(h: Hall) -> Shown
     ensures { result ≡ shown_of h }
 {
-    let mut fails = [0u32; STRINGS];
-    let mut closes = [0u32; STRINGS];
-    let mut s: usize = 0;
-    while s < STRINGS {
-        let m = h.masks[s];
-        let x = h.strings[s];
-        let standing = x.standing;
-        fails[s] = m.mapped() & standing.fail;
-        closes[s] = x.close;
-        s += 1;
-    }
-    let banks = h.banks;
     Shown {
         n: h.n,
-        fails: fails,
-        closes: closes,
-        banks: banks,
+        strings: array::from_fn(|s| StringShown {
+            fail: h.masks[s].mapped() & h.strings[s].standing.fail,
+            close: h.strings[s].close,
+        }),
+        banks: h.banks,
     }
 }
 

@@ -20,10 +20,10 @@ use cycle::answer::Answer;
 use cycle::calm::finds_none;
 use cycle::hall::{Hall, Stepped};
 use cycle::map::{Masks, mapped_words};
-use cycle::number::{Verdict, judged};
+use cycle::number::judged;
 use cycle::requests::both_ways;
 use cycle::size::{ALL_JETS, BELOW_ZERO_FROM, LEAK_MOST, STRINGS, TEMPERATURES};
-use cycle::string::OnSlots;
+use cycle::slots::OnSlots;
 
 // Are the bytes one whole record and nothing else?
 fn is_whole(s: &[u8]) -> bool
@@ -36,7 +36,7 @@ fn is_whole(s: &[u8]) -> bool
 }
 
 // The hall's own step by a whole record's values: its mark tells its kind.
-fn step_values(hall: Hall, s: &[u8]) -> Stepped
+fn step_values(hall: Hall, s: &[u8]) -> Stepped<Hall>
     requires { is_whole s.now ≡ true }
     ensures { result ≡ step_of s.now hall }
 {
@@ -49,7 +49,7 @@ fn step_values(hall: Hall, s: &[u8]) -> Stepped
 }
 
 // The step by any bytes: those that are no whole record settle nothing and leave the hall as it was.
-pub fn step(hall: Hall, s: &[u8]) -> Stepped
+pub fn step(hall: Hall, s: &[u8]) -> Stepped<Hall>
     ensures { result ≡ step_of s.now hall }
 {
     if is_whole(s) {
@@ -57,7 +57,7 @@ pub fn step(hall: Hall, s: &[u8]) -> Stepped
     } else {
         Stepped {
             answer: Answer::NothingSettled,
-            hall: hall,
+            hall,
         }
     }
 }
@@ -82,12 +82,10 @@ fn cold_among(s: &[u8], i: usize, n: usize) -> bool
 {
     let mut small = false;
     let mut below_zero = false;
-    let mut k: usize = 0;
-    while k < n {
+    for k in 0..n {
         let w = low_two_at(s, i + TEMPERATURE_LENGTH * k);
-        small = small | ((w % 256 == 0) & (w / 256 <= LEAK_MOST));
-        below_zero = below_zero | (BELOW_ZERO_FROM / 256 <= w % 256);
-        k += 1;
+        small |= (w % 256 == 0) & (w / 256 <= LEAK_MOST);
+        below_zero |= BELOW_ZERO_FROM / 256 <= w % 256;
     }
     small | below_zero
 }
@@ -116,11 +114,11 @@ fn leak_among(jets: u32, s: &[u8], i: usize) -> bool
     let mut small: u32 = 0;
     let mut rest = jets;
     while rest != 0 {
-        let j = u32::trailing_zeros(rest) as usize;
+        let j = rest.trailing_zeros() as usize;
         let w = pair_at(s, i + 2 * TEMPERATURE_LENGTH * j);
-        below_zero = below_zero | w;
-        small = small | std::num::wrapping_sub_u32(w, LEAST_WARM);
-        rest = rest & (rest - 1);
+        below_zero |= w;
+        small |= w.wrapping_sub(LEAST_WARM);
+        rest &= rest - 1;
     }
     bits::meets(below_zero | small, SIGNS)
 }
@@ -156,16 +154,14 @@ pub(crate) fn some_leaks(mapped: [u32; STRINGS], s: &[u8]) -> bool
         return cold_among(s, TEMPERATURES_FROM, STRINGS * TEMPERATURES);
     }
     let mut found = false;
-    let mut k: usize = 0;
-    while k < STRINGS {
-        found = found | some_leak(mapped[k], s, TEMPERATURES_FROM + TEMPERATURES_LENGTH * k);
-        k += 1;
+    for k in 0..STRINGS {
+        found |= some_leak(mapped[k], s, TEMPERATURES_FROM + TEMPERATURES_LENGTH * k);
     }
     found
 }
 
 // Do steps 5 to 8 find nothing in string k but what its temperatures say?
-fn none_found(on: OnSlots, close: u32, mapped: u32, s: &[u8], k: usize) -> bool
+fn none_found(on: OnSlots<u32>, close: u32, mapped: u32, s: &[u8], k: usize) -> bool
     requires { (major_length ≤ length s.now) × (k < string_count) }
     ensures { result ≡ none_found s.now mapped on close k }
 {
@@ -182,8 +178,7 @@ fn quiet_major(hall: Hall, s: &[u8]) -> bool
     if s[PATH_AT] != 0 {
         return false;
     }
-    let masks = hall.masks;
-    let jets = mapped_words(masks);
+    let jets = mapped_words(hall.masks);
     let a = hall.strings[0];
     let b = hall.strings[1];
     let c = hall.strings[2];
@@ -197,19 +192,18 @@ fn quiet_major(hall: Hall, s: &[u8]) -> bool
 
 // The same step in the halves of the hall's own, for the run: a hall that takes one way through is changed in place, and of a refused
 // record at most the requests are read. (By the hall's own step a record of clean feed costs two and a half times as much.)
-pub(crate) fn step_whole(hall: Hall, s: &[u8]) -> Stepped
+pub(crate) fn step_whole(hall: Hall, s: &[u8]) -> Stepped<Hall>
     requires { is_whole s.now ≡ true }
     ensures { result ≡ step_of s.now hall }
 {
     let major = s[1] == MAJOR_MARK;
     let v = judged(hall.n, two_at(s, WIRE_AT), major);
     match v {
-        Verdict::Takes(next) => {
-            let masks = hall.masks;
-            if record_both_ways(masks, s) {
+        Ok(next) => {
+            if record_both_ways(hall.masks, s) {
                 return Stepped {
                     answer: Answer::BothWays,
-                    hall: hall,
+                    hall,
                 };
             }
             let r = minor_of(s);
@@ -233,9 +227,6 @@ pub(crate) fn step_whole(hall: Hall, s: &[u8]) -> Stepped
                 }
             }
         }
-        Verdict::Refuses(answer) => Stepped {
-            answer: answer,
-            hall: hall,
-        },
+        Err(answer) => Stepped { answer, hall },
     }
 }

@@ -6,7 +6,6 @@ ghost use Rattle.feed.specs.Values.{quantities_at, quantities_of, major_of};
 ghost use Rattle.feed.specs.Reader.{store};
 
 use crate::bytes::{four_at, two_at};
-use crate::reader::copy;
 use crate::size::{
     DROPS_FROM, MAJOR_LENGTH, MINOR_LENGTH, PATH_AT, QUANTITIES_FROM, QUANTITIES_LENGTH,
     QUANTITY_LENGTH, REQUESTS_FROM, REQUESTS_LENGTH, SAMPLE_LENGTH, SAMPLES_FROM,
@@ -14,6 +13,7 @@ use crate::size::{
 };
 use cycle::size::{MODULES, STRINGS, TEMPERATURES};
 use cycle::values::{Major, Minor, Quantities, Requests, Sample, Temperatures};
+use std::array;
 
 // One string's sample, from `i` on.
 pub(crate) fn sample_at(s: &[u8], i: usize) -> Sample
@@ -32,19 +32,7 @@ fn samples_of(s: &[u8]) -> [Sample; STRINGS]
     requires { minor_length ≤ length s.now }
     ensures { result ≡ samples_of s.now }
 {
-    let none = Sample {
-        commanded: 0,
-        pressure: 0,
-        driver: 0,
-        valves: 0,
-    };
-    let mut samples = [none; STRINGS];
-    let mut k: usize = 0;
-    while k < STRINGS {
-        samples[k] = sample_at(s, SAMPLES_FROM + SAMPLE_LENGTH * k);
-        k += 1;
-    }
-    samples
+    array::from_fn(|k| sample_at(s, SAMPLES_FROM + SAMPLE_LENGTH * k))
 }
 
 // What a minor record says, and a major one in the bytes that both have.
@@ -52,11 +40,10 @@ pub(crate) fn minor_of(s: &[u8]) -> Minor
     requires { minor_length ≤ length s.now }
     ensures { result ≡ minor_of s.now }
 {
-    let samples = samples_of(s);
     Minor {
         wire: two_at(s, WIRE_AT),
         path: s[PATH_AT],
-        samples: samples,
+        samples: samples_of(s),
     }
 }
 
@@ -65,28 +52,15 @@ pub(crate) fn temperatures_at(s: &[u8], i: usize) -> Temperatures
     requires { i + temperatures_length ≤ length s.now }
     ensures { result ≡ temperatures_at s.now i }
 {
-    let mut words = [0u16; TEMPERATURES];
-    let mut k: usize = 0;
-    while k < TEMPERATURES {
-        words[k] = two_at(s, i + TEMPERATURE_LENGTH * k);
-        k += 1;
-    }
-    Temperatures { words: words }
+    let words = array::from_fn(|k| two_at(s, i + TEMPERATURE_LENGTH * k));
+    Temperatures { words }
 }
 
 fn temperatures_of(s: &[u8]) -> [Temperatures; STRINGS]
     requires { major_length ≤ length s.now }
     ensures { result ≡ temperatures_of s.now }
 {
-    let words = [0u16; TEMPERATURES];
-    let zero = Temperatures { words: words };
-    let mut all = [zero; STRINGS];
-    let mut k: usize = 0;
-    while k < STRINGS {
-        all[k] = temperatures_at(s, TEMPERATURES_FROM + TEMPERATURES_LENGTH * k);
-        k += 1;
-    }
-    all
+    array::from_fn(|k| temperatures_at(s, TEMPERATURES_FROM + TEMPERATURES_LENGTH * k))
 }
 
 // One string's request words, from `i` on, and its drop byte, at `k`.
@@ -105,18 +79,7 @@ pub(crate) fn requests_of(s: &[u8]) -> [Requests; STRINGS]
     requires { major_length ≤ length s.now }
     ensures { result ≡ requests_of s.now }
 {
-    let none = Requests {
-        inhibit: 0,
-        reenable: 0,
-        drop: 0,
-    };
-    let mut all = [none; STRINGS];
-    let mut k: usize = 0;
-    while k < STRINGS {
-        all[k] = requests_at(s, REQUESTS_FROM + REQUESTS_LENGTH * k, DROPS_FROM + k);
-        k += 1;
-    }
-    all
+    array::from_fn(|k| requests_at(s, REQUESTS_FROM + REQUESTS_LENGTH * k, DROPS_FROM + k))
 }
 
 fn quantities_at(s: &[u8], i: usize) -> Quantities
@@ -133,17 +96,7 @@ pub(crate) fn quantities_of(s: &[u8]) -> [Quantities; MODULES]
     requires { major_length ≤ length s.now }
     ensures { result ≡ quantities_of s.now }
 {
-    let none = Quantities {
-        fuel: 0,
-        oxidizer: 0,
-    };
-    let mut all = [none; MODULES];
-    let mut m: usize = 0;
-    while m < MODULES {
-        all[m] = quantities_at(s, QUANTITIES_FROM + QUANTITIES_LENGTH * m);
-        m += 1;
-    }
-    all
+    array::from_fn(|m| quantities_at(s, QUANTITIES_FROM + QUANTITIES_LENGTH * m))
 }
 
 // What a major record says, given what the bytes that both have do.
@@ -151,14 +104,11 @@ pub(crate) fn major_of(s: &[u8], minor: Minor) -> Major
     requires { (major_length ≤ length s.now) × (minor ≡ minor_of s.now) }
     ensures { result ≡ major_of s.now }
 {
-    let temperatures = temperatures_of(s);
-    let requests = requests_of(s);
-    let quantities = quantities_of(s);
     Major {
-        minor: minor,
-        temperatures: temperatures,
-        requests: requests,
-        quantities: quantities,
+        minor,
+        temperatures: temperatures_of(s),
+        requests: requests_of(s),
+        quantities: quantities_of(s),
     }
 }
 
@@ -168,7 +118,7 @@ pub(crate) fn padded(s: &[u8]) -> [u8; MAJOR_LENGTH]
     ensures { result ≡ store s.now }
 {
     let mut whole = [0u8; MAJOR_LENGTH];
-    copy(&mut whole[0..s.len()], s);
+    whole[..s.len()].copy_from_slice(s);
     whole
 }
 
@@ -177,10 +127,10 @@ pub fn read_minor(s: &[u8]) -> Minor
     ensures { result ≡ minor_of s.now }
 {
     if s.len() < MINOR_LENGTH {
-        let whole = padded(s);
-        return minor_of(&whole);
+        minor_of(&padded(s))
+    } else {
+        minor_of(s)
     }
-    minor_of(s)
 }
 
 pub fn read_major(s: &[u8]) -> Major
@@ -188,7 +138,8 @@ pub fn read_major(s: &[u8]) -> Major
 {
     if s.len() < MAJOR_LENGTH {
         let whole = padded(s);
-        return major_of(&whole, minor_of(&whole));
+        major_of(&whole, minor_of(&whole))
+    } else {
+        major_of(s, minor_of(s))
     }
-    major_of(s, minor_of(s))
 }

@@ -1,47 +1,37 @@
 -- Why the program ends, case by case. Assumes nothing.
-use Rattle.std.proofs.Common.{◌≡◌, ℕ, ℤ, ◌⊎◌, refl, ⊎_elim, arith}
-use Rattle.lines.specs.Lines.{largest_count, SaidOver, GivenUp}
+use Rattle.std.proofs.Common.{◌≡◌, ℕ, ◌⊎◌, refl, ⊎_elim, arith, Result, Err}
+use Rattle.lines.specs.Lines.{GivenUp, moved_of}
 use Rattle.lines.specs.Ending.{EndedBy, why_at, ended_at}
-use Rattle.lines.specs.declared.line.Line.{Line}
-use Rattle.lines.specs.declared.line.Line.TheVariants as line
 use Rattle.lines.specs.declared.line.Moved.{Moved}
+use Rattle.lines.specs.declared.line.Stop.{Stop}
+use Rattle.lines.specs.declared.line.Stop.TheVariants as stop
+use Rattle.lines.specs.declared.line.Stopped.{Stopped}
 use Rattle.lines.specs.declared.ending.Ended.{Ended}
 use Rattle.lines.specs.declared.ending.Why.{Why}
-use Rattle.lines.specs.declared.ending.Why.TheVariants.{InputOver, OutputOver, OutOfTurns, OutOfTries}
+use Rattle.lines.specs.declared.ending.Why.TheVariants.{InputOver, OutputOver}
 
 -- two reasons are not the same
 never : {A : Type 0} → ◌≡◌ {A = ℕ} 0 1 → A
 never e = absurd (omega arith)
 
-module _ (turns tries : ℕ) (answer failure : ℤ) where
-  abbrev ended : Why → Ended
-  ended why = record { why = why; turns = turns; tries = tries; answer = answer; failure = failure }
-
-  pub ended-turned : turns ≡ largest_count → EndedBy (ended OutOfTurns)
-  ended-turned all = record { over = ⊎_elim (λ i. never cc) (λ i. never cc); turned = λ e. all; tried = λ e. never cc }
-
-  ended-tried : tries ≡ largest_count → EndedBy (ended OutOfTries)
-  ended-tried all = record { over = ⊎_elim (λ i. never cc) (λ i. never cc); turned = λ e. never cc; tried = λ e. all }
-
-  ended-over : (over : Why) → (over ≡ InputOver) ⊎ (over ≡ OutputOver) → SaidOver answer failure → EndedBy (ended over)
-  ended-over over o s = record {
-    over = λ e. s;
-    turned = λ e. ⊎_elim (λ i. never cc) (λ i. never cc) o;
-    tried = λ e. ⊎_elim (λ i. never cc) (λ i. never cc) o;
-  }
+abbrev ended : ℕ → Moved → Why → Ended
+ended turns moved why = record { why = why; turns = turns; tries = moved.tries; answer = moved.answer; failure = moved.failure }
 
 -- what is told of an end
-pub ended-as-words : (over : Why) (turns : ℕ) (r : Moved) (why : Why) → why ≡ why_at over r.line
-    → ended turns r.tries r.answer r.failure why ≡ ended_at over turns r
+pub ended-as-words : (over : Why) (turns : ℕ) (r : Result Moved Stopped) (why : Why) → why ≡ why_at over r
+    → ended turns (moved_of r) why ≡ ended_at over turns r
 ended-as-words over turns r why e = rw e refl
 
 -- an end at a line that was given up
-pub ended-at-line : (over : Why) (turns : ℕ) (r : Moved) → (over ≡ InputOver) ⊎ (over ≡ OutputOver) → GivenUp r → (r.line ≡ line.Open → ⊥)
-    → (r.line ≡ line.NoRoom → ⊥) → EndedBy (ended_at over turns r)
-ended-at-line over turns r o g shut room = by r.line refl
+pub ended-at-line : (over : Why) (turns : ℕ) (stopped : Stopped) → (over ≡ InputOver) ⊎ (over ≡ OutputOver) → GivenUp stopped
+    → (stopped.why ≡ stop.NoRoom → ⊥) → EndedBy (ended_at over turns (Err stopped))
+ended-at-line over turns stopped o g room = by stopped.why refl
   where
-    by : (l : Line) → r.line ≡ l → EndedBy (ended_at over turns r)
-    by line.Open e = absurd (shut e)
-    by line.Over e = rw e (ended-over turns r.tries r.answer r.failure over o (g.over e))
-    by line.OutOfTries e = rw e (ended-tried turns r.tries r.answer r.failure (g.tried e))
-    by line.NoRoom e = absurd (room e)
+    by : (why : Stop) → stopped.why ≡ why → EndedBy (ended_at over turns (Err stopped))
+    by stop.Over e = rw e (record {
+      over = λ i. g.over e;
+      turned = λ i. ⊎_elim (λ j. never cc) (λ j. never cc) o;
+      tried = λ i. ⊎_elim (λ j. never cc) (λ j. never cc) o;
+    })
+    by stop.OutOfTries e = rw e (record { over = ⊎_elim (λ i. never cc) (λ i. never cc); turned = λ i. never cc; tried = λ i. g.tried e })
+    by stop.NoRoom e = absurd (room e)

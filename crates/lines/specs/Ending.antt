@@ -1,9 +1,10 @@
 -- Why a program ends that reads and writes in turns. Assumes nothing.
-use Rattle.std.specs.Prelude.{◌≡◌, ◌⊎◌, ℕ}
-use Rattle.lines.specs.Lines.{largest_count, SaidOver}
-use Rattle.lines.specs.declared.line.Line.{Line}
-use Rattle.lines.specs.declared.line.Line.TheVariants as line
+use Rattle.std.specs.Prelude.{◌≡◌, ◌⊎◌, ℕ, Result, Ok, Err}
+use Rattle.lines.specs.Lines.{largest_count, SaidOver, moved_of}
 use Rattle.lines.specs.declared.line.Moved.{Moved}
+use Rattle.lines.specs.declared.line.Stop.{Stop}
+use Rattle.lines.specs.declared.line.Stop.TheVariants as stop
+use Rattle.lines.specs.declared.line.Stopped.{Stopped}
 use Rattle.lines.specs.declared.ending.Ended.{Ended}
 use Rattle.lines.specs.declared.ending.Why.{Why}
 use Rattle.lines.specs.declared.ending.Why.TheVariants.{InputOver, OutputOver, OutOfTurns, OutOfTries}
@@ -15,14 +16,22 @@ pub record EndedBy (r : Ended) : Type 0 where
   pub turned : r.why ≡ OutOfTurns → r.turns ≡ largest_count
   pub tried : r.why ≡ OutOfTries → r.tries ≡ largest_count
 
--- why, at a line that is not open: there are no tries left, or else what `over` says
-abbrev pub why_at : Why → Line → Why
-why_at over line.Open = over
-why_at over line.Over = over
-why_at over line.OutOfTries = OutOfTries
-why_at over line.NoRoom = over
+-- why, at a line: there are no tries left, or else what `over` says
+abbrev pub why_stopped : Why → Stop → Why
+why_stopped over stop.Over = over
+why_stopped over stop.OutOfTries = OutOfTries
+why_stopped over stop.NoRoom = over
+
+abbrev pub why_at : Why → Result Moved Stopped → Why
+why_at over (Ok moved) = over
+why_at over (Err stopped) = why_stopped over stopped.why
 
 -- what is told of an end at a line is what was told of the line
-abbrev pub ended_at : (over : Why) (turns : ℕ) (r : Moved) → Ended
-ended_at over turns r =
-    record { why = why_at over r.line; turns = turns; tries = r.tries; answer = r.answer; failure = r.failure }
+abbrev pub ended_at : (over : Why) (turns : ℕ) (r : Result Moved Stopped) → Ended
+ended_at over turns r = record {
+  why = why_at over r;
+  turns = turns;
+  tries = (moved_of r).tries;
+  answer = (moved_of r).answer;
+  failure = (moved_of r).failure;
+}

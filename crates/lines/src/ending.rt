@@ -2,10 +2,10 @@
 ghost use Rattle.std.specs.Prelude.{◌≡◌};
 ghost use Rattle.lines.specs.Ending.{ended_at};
 
-use crate::line::{Line, Moved};
+use crate::line::{Moved, Stop, Stopped};
 
 // Why the program has ended.
-#[derive(Clone, Copy)]
+#[derive(Clone, Copy, Debug, PartialEq, Eq)]
 pub enum Why {
     InputOver,
     OutputOver,
@@ -14,7 +14,7 @@ pub enum Why {
 }
 
 // Why, after how many turns, and for the line that ended it how many tries, the system's last answer and its last failure.
-#[derive(Clone, Copy)]
+#[derive(Clone, Copy, Debug, PartialEq, Eq)]
 pub struct Ended {
     pub why: Why,
     pub turns: u64,
@@ -23,23 +23,20 @@ pub struct Ended {
     pub failure: i32,
 }
 
-// The program ends at a line that is not open: for want of tries, or else because the line is over, as `over` says.
-pub fn ended_at(over: Why, turns: u64, moved: Moved) -> Ended
-    ensures { result ≡ ended_at over turns moved }
+// The program ends at a line, by what was answered of it: for want of tries, or else because the line is over, as `over` says.
+pub fn ended_at(over: Why, turns: u64, answered: Result<Moved, Stopped>) -> Ended
+    ensures { result ≡ ended_at over turns answered }
 {
-    let line = moved.line;
-    if let Line::OutOfTries = line {
-        return Ended {
-            why: Why::OutOfTries,
-            turns: turns,
-            tries: moved.tries,
-            answer: moved.answer,
-            failure: moved.failure,
-        };
-    }
+    let (why, moved) = match answered {
+        Ok(moved) => (over, moved),
+        Err(stopped) => match stopped.why {
+            Stop::OutOfTries => (Why::OutOfTries, stopped.moved),
+            Stop::Over | Stop::NoRoom => (over, stopped.moved),
+        },
+    };
     Ended {
-        why: over,
-        turns: turns,
+        why,
+        turns,
         tries: moved.tries,
         answer: moved.answer,
         failure: moved.failure,

@@ -12,35 +12,44 @@ pub const EAGAIN: i32 = 11;
 
 pub const EINTR: i32 = 4;
 
-// What became of a line: the bytes went over it; it has ended or failed; it was tried so often that no count can hold more; or there was no
-// room for what it would bring.
-#[derive(Clone, Copy)]
-pub enum Line {
-    Open,
+// How many bytes went over a line, the tries before the last, what the system answered to the last call, and the last failure.
+#[derive(Clone, Copy, Debug, PartialEq, Eq)]
+pub struct Moved {
+    pub bytes: usize,
+    pub tries: u64,
+    pub answer: isize,
+    pub failure: i32,
+}
+
+// Before any call the answer is 1 and the failure EAGAIN, at which no line is over.
+pub(crate) const UNASKED: Moved = Moved {
+    bytes: 0,
+    tries: 0,
+    answer: 1,
+    failure: EAGAIN,
+};
+
+// Why a line is not open: it has ended or failed; it was tried so often that no count can hold more; or there was no room for what it would
+// bring.
+#[derive(Clone, Copy, Debug, PartialEq, Eq)]
+pub enum Stop {
     Over,
     OutOfTries,
     NoRoom,
 }
 
-// How many bytes went over a line, what became of it, the tries before the last, what the system answered to the last call, and the last
-// failure. Before any they are 1 and EAGAIN, at which no line is over.
-#[derive(Clone, Copy)]
-pub struct Moved {
-    pub bytes: usize,
-    pub line: Line,
-    pub tries: u64,
-    pub answer: isize,
-    pub failure: i32,
+// A line that is not open, and what went over it before.
+#[derive(Clone, Copy, Debug, PartialEq, Eq)]
+pub struct Stopped {
+    pub why: Stop,
+    pub moved: Moved,
 }
 
 // The number of a failure, or 0, which does not pass, where it has none: the system's failures have one.
 pub(crate) fn number_of(failed: io::Error) -> i32
     ensures { MatchOption (raw_os_error failed) (result ≡ pos 0) (λ number. result ≡ number) }
 {
-    match failed.raw_os_error() {
-        Some(number) => number,
-        None => 0,
-    }
+    failed.raw_os_error().unwrap_or(0)
 }
 
 // Waits two milliseconds: short beside a cycle's 40.

@@ -1,69 +1,58 @@
 // Reading standard input, or another reader.
-ghost use Rattle.std.specs.Prelude.{length};
+ghost use Rattle.std.specs.Prelude.{◌≡◌, ◌≤◌, true, length};
 ghost use Rattle.lines.specs.Lines.{Read, First};
 
-use crate::line::{EAGAIN, Line, Moved, number_of, try_again};
+use crate::line::{Moved, Stop, Stopped, UNASKED, number_of, try_again};
 use std::io;
 use std::time::Clock;
 
 // Reads what is ready into the buffer, and waits for that. Into no buffer the system would read nothing and answer 0, as at the end of the
 // input: it is not asked then.
-pub fn read_ready(input: &mut impl io::Read, clock: &impl Clock, buf: &mut [u8]) -> Moved
+pub fn read_ready(
+    input: &mut impl io::Read,
+    clock: &impl Clock,
+    buf: &mut [u8],
+) -> Result<Moved, Stopped>
     ensures { Read (length buf.new) result }
 {
-    let mut tries: u64 = 0;
-    let mut failure: i32 = EAGAIN;
-    if buf.len() == 0 {
-        return Moved {
-            bytes: 0,
-            line: Line::NoRoom,
-            tries: tries,
-            answer: 1,
-            failure: failure,
-        };
+    let mut moved = UNASKED;
+    if buf.is_empty() {
+        return Err(Stopped {
+            why: Stop::NoRoom,
+            moved,
+        });
     }
-    while tries < u64::MAX {
+    for tries in 0..u64::MAX {
         match input.read(buf) {
             Ok(0) => {
-                return Moved {
-                    bytes: 0,
-                    line: Line::Over,
-                    tries: tries,
-                    answer: 0,
-                    failure: failure,
-                };
+                moved.answer = 0;
+                return Err(Stopped {
+                    why: Stop::Over,
+                    moved,
+                });
             }
             Ok(bytes) => {
-                return Moved {
-                    bytes: bytes,
-                    line: Line::Open,
-                    tries: tries,
-                    answer: bytes as isize,
-                    failure: failure,
-                };
+                moved.bytes = bytes;
+                moved.answer = bytes as isize;
+                return Ok(moved);
             }
             Err(failed) => {
-                failure = number_of(failed);
-                if !try_again(clock, failure) {
-                    return Moved {
-                        bytes: 0,
-                        line: Line::Over,
-                        tries: tries,
-                        answer: -1,
-                        failure: failure,
-                    };
+                moved.answer = -1;
+                moved.failure = number_of(failed);
+                if !try_again(clock, moved.failure) {
+                    return Err(Stopped {
+                        why: Stop::Over,
+                        moved,
+                    });
                 }
             }
         }
-        tries += 1;
+        moved.tries = tries + 1;
     }
-    Moved {
-        bytes: 0,
-        line: Line::OutOfTries,
-        tries: tries,
-        answer: -1,
-        failure: failure,
-    }
+    Err(Stopped {
+        why: Stop::OutOfTries,
+        moved,
+    })
 }
 
 // Reads until `wanted` bytes are there; more may come with them. Says how many bytes are in the buffer, also where it was full or the input
@@ -73,36 +62,27 @@ pub fn read_first(
     clock: &impl Clock,
     buf: &mut [u8],
     wanted: usize,
-) -> Moved
+) -> Result<Moved, Stopped>
     ensures { First wanted (length buf.new) result }
 {
-    let mut n: usize = 0;
-    let mut got = Moved {
-        bytes: 0,
-        line: Line::Open,
-        tries: 0,
-        answer: 1,
-        failure: EAGAIN,
-    };
-    while n < wanted {
-        got = read_ready(input, clock, &mut buf[n..]);
-        let line = got.line;
-        let Line::Open = line else {
-            return Moved {
+    let mut moved = UNASKED;
+    while moved.bytes < wanted {
+        let n = moved.bytes;
+        moved = read_ready(input, clock, &mut buf[n..]).map_err(|stopped| Stopped {
+            moved: Moved {
                 bytes: n,
-                line: line,
-                tries: got.tries,
-                answer: got.answer,
-                failure: got.failure,
-            };
-        };
-        n += got.bytes;
+                ..stopped.moved
+            },
+            ..stopped
+        })?;
+        moved.bytes += n;
     }
-    Moved {
-        bytes: n,
-        line: Line::Open,
-        tries: got.tries,
-        answer: got.answer,
-        failure: got.failure,
-    }
+    Ok(moved)
+}
+
+// Reads the next n bytes to the front of the buffer; no, where they do not fit or the input ends before.
+pub fn came(reader: &mut impl io::Read, buf: &mut [u8], n: usize) -> bool
+    ensures { result ≡ true → n ≤ length buf.new }
+{
+    n <= buf.len() && reader.read_exact(&mut buf[..n]).is_ok()
 }

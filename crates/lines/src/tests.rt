@@ -1,8 +1,8 @@
 // Lines that answer what a test tells them to: what is made again, what gives a line up, and what is told of that.
 ghost use Rattle.std.specs.Prelude.{◌≤◌, IfOk};
 
-use crate::line::{EAGAIN, EINTR, Line, Moved};
-use crate::read::{read_first, read_ready};
+use crate::line::{EAGAIN, EINTR, Moved, Stop, Stopped};
+use crate::read::{came, read_first, read_ready};
 use crate::write::write_all;
 use std::cell::Cell;
 use std::io;
@@ -87,12 +87,16 @@ fn no_pauses() -> Pauses {
     }
 }
 
-fn is_over(moved: Moved) -> bool {
-    matches!(&moved.line, Line::Over)
+// What went over a line, open or not.
+fn moved_of(answer: Result<Moved, Stopped>) -> Moved {
+    match answer {
+        Ok(moved) => moved,
+        Err(stopped) => stopped.moved,
+    }
 }
 
-fn is_open(moved: Moved) -> bool {
-    matches!(&moved.line, Line::Open)
+fn is_over(answer: Result<Moved, Stopped>) -> bool {
+    matches!(&answer, Err(stopped) if stopped.why == Stop::Over)
 }
 
 #[test]
@@ -112,7 +116,8 @@ fn passing_failures_are_tried_again(rt: HostRuntime) {
         at: 0,
     };
     let got = read_first(&mut input, &clock, &mut buf, 8);
-    assert!(rt; is_open(got));
+    assert!(rt; got.is_ok());
+    let got = moved_of(got);
     assert_eq!(rt; got.bytes, 12);
     assert_eq!(rt; got.tries, 1);
     assert_eq!(rt; got.answer, 9);
@@ -126,7 +131,8 @@ fn passing_failures_are_tried_again(rt: HostRuntime) {
         at: 0,
     };
     let put = write_all(&mut output, &clock, &buf[..12]);
-    assert!(rt; is_open(put));
+    assert!(rt; put.is_ok());
+    let put = moved_of(put);
     assert_eq!(rt; put.bytes, 12);
     assert_eq!(rt; put.tries, 6);
     assert_eq!(rt; put.answer, 9);
@@ -151,6 +157,7 @@ fn other_answers_give_a_line_up(rt: HostRuntime) {
         };
         let got = read_ready(&mut input, &clock, &mut buf);
         assert!(rt; is_over(got));
+        let got = moved_of(got);
         assert_eq!(rt; got.bytes, 0);
         assert_eq!(rt; got.tries, 1);
         assert_eq!(rt; got.answer, answer);
@@ -163,6 +170,7 @@ fn other_answers_give_a_line_up(rt: HostRuntime) {
         };
         let put = write_all(&mut output, &clock, &buf);
         assert!(rt; is_over(put));
+        let put = moved_of(put);
         assert_eq!(rt; put.bytes, 5);
         assert_eq!(rt; put.tries, 1);
         assert_eq!(rt; put.answer, answer);
@@ -179,8 +187,38 @@ fn with_no_room_nothing_is_asked(rt: HostRuntime) {
         at: 0,
     };
     let got = read_ready(&mut line, &clock, &mut []);
-    assert!(rt; matches!(&got.line, Line::NoRoom));
-    assert_eq!(rt; got.failure, EAGAIN);
-    assert!(rt; is_open(write_all(&mut line, &clock, &[])));
+    assert!(rt; matches!(&got, Err(stopped) if stopped.why == Stop::NoRoom));
+    assert_eq!(rt; moved_of(got).failure, EAGAIN);
+    assert!(rt; write_all(&mut line, &clock, &[]).is_ok());
     assert_eq!(rt; line.at, 0);
+}
+
+#[test]
+fn what_came_is_told_where_the_input_ends(rt: HostRuntime) {
+    let answers = [Says::Moves(5), Says::Fails(EINTR)];
+    let mut buf = [0u8; 16];
+    let clock = no_pauses();
+    let mut input = Scripted {
+        answers: &answers,
+        at: 0,
+    };
+    let got = read_first(&mut input, &clock, &mut buf, 8);
+    let told = moved_of(got);
+    assert!(rt; is_over(got));
+    assert_eq!(rt; told.bytes, 5);
+    assert_eq!(rt; told.tries, 1);
+    assert_eq!(rt; told.answer, 0);
+}
+
+#[test]
+fn what_fits_comes(rt: HostRuntime) {
+    let answers = [Says::Moves(9), Says::Moves(7)];
+    let mut buf = [0u8; 16];
+    let mut input = Scripted {
+        answers: &answers,
+        at: 0,
+    };
+    assert!(rt; came(&mut input, &mut buf, 16));
+    assert!(rt; !came(&mut input, &mut buf, 1));
+    assert!(rt; !came(&mut input, &mut buf, 17));
 }

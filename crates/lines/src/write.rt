@@ -2,63 +2,50 @@
 ghost use Rattle.std.specs.Prelude.{length};
 ghost use Rattle.lines.specs.Lines.{Written};
 
-use crate::line::{EAGAIN, Line, Moved, number_of, try_again};
+use crate::line::{Moved, Stop, Stopped, UNASKED, number_of, try_again};
 use std::io;
 use std::time::Clock;
 
 // Writes bytes, all of them, and waits for that.
-pub fn write_all(output: &mut impl io::Write, clock: &impl Clock, bytes: &[u8]) -> Moved
+pub fn write_all(
+    output: &mut impl io::Write,
+    clock: &impl Clock,
+    bytes: &[u8],
+) -> Result<Moved, Stopped>
     ensures { Written (length bytes.now) result }
 {
-    let mut done: usize = 0;
-    let mut tries: u64 = 0;
-    let mut answer: isize = 1;
-    let mut failure: i32 = EAGAIN;
-    while tries < u64::MAX {
-        if done == bytes.len() {
-            return Moved {
-                bytes: done,
-                line: Line::Open,
-                tries: tries,
-                answer: answer,
-                failure: failure,
-            };
+    let mut moved = UNASKED;
+    for tries in 0..u64::MAX {
+        if moved.bytes == bytes.len() {
+            return Ok(moved);
         }
-        match output.write(&bytes[done..]) {
+        match output.write(&bytes[moved.bytes..]) {
             Ok(0) => {
-                return Moved {
-                    bytes: done,
-                    line: Line::Over,
-                    tries: tries,
-                    answer: 0,
-                    failure: failure,
-                };
+                moved.answer = 0;
+                return Err(Stopped {
+                    why: Stop::Over,
+                    moved,
+                });
             }
             Ok(taken) => {
-                answer = taken as isize;
-                done += taken;
+                moved.answer = taken as isize;
+                moved.bytes += taken;
             }
             Err(failed) => {
-                answer = -1;
-                failure = number_of(failed);
-                if !try_again(clock, failure) {
-                    return Moved {
-                        bytes: done,
-                        line: Line::Over,
-                        tries: tries,
-                        answer: answer,
-                        failure: failure,
-                    };
+                moved.answer = -1;
+                moved.failure = number_of(failed);
+                if !try_again(clock, moved.failure) {
+                    return Err(Stopped {
+                        why: Stop::Over,
+                        moved,
+                    });
                 }
             }
         }
-        tries += 1;
+        moved.tries = tries + 1;
     }
-    Moved {
-        bytes: done,
-        line: Line::OutOfTries,
-        tries: tries,
-        answer: answer,
-        failure: failure,
-    }
+    Err(Stopped {
+        why: Stop::OutOfTries,
+        moved,
+    })
 }

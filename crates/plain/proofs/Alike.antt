@@ -28,14 +28,15 @@ use Rattle.cycle.specs.declared.banks.Bank.{Bank}
 use Rattle.cycle.specs.declared.hall.Hall.{Hall}
 use Rattle.cycle.specs.declared.hall.Stepped.{Stepped}
 use Rattle.cycle.specs.declared.map.Masks.{Masks}
-use Rattle.cycle.specs.declared.number.Verdict.{Verdict}
-use Rattle.cycle.specs.declared.number.Verdict.TheVariants.{Takes, Refuses}
+use Rattle.cycle.specs.Numbers.{Verdict}
+use Rattle.std.specs.Prelude.{Ok, Err}
 use Rattle.cycle.specs.declared.string.StringState.{StringState}
 use Rattle.cycle.proofs.HallStrings.{fresh-string, fresh-proper, stepped-proper}
 use Rattle.cycle.proofs.HallAgrees.{close-fits-after}
 use Rattle.cycle.proofs.Maps.{in-word, mapped-jet, mapped-found, refused-exactly, accepted-disjoint}
 use Rattle.cycle.proofs.Verdicts.{verdict-follows}
-use Rattle.feed.specs.Report.{head_of, string_bytes, strings_bytes, banks_bytes, reported_fail, reported_close, report_by, report_of, report_shown}
+use Rattle.feed.specs.Report.{head_of, string_bytes, strings_bytes, banks_bytes, reported_fail, reported_close, report_by, report_of, past_shown, fail_shown, close_shown, report_shown}
+use Rattle.feed.specs.declared.report.StringShown.{StringShown}
 use Rattle.feed.proofs.Records.Tables.{table_at, table-length}
 use Rattle.feed.proofs.Reports.Parts.{parts_same}
 use Rattle.plain.specs.Jet.{fresh_on, with_state, mapped_jet}
@@ -46,10 +47,9 @@ use Rattle.plain.specs.Hall.{string_at, fresh_plain, started, stepped}
 use Rattle.plain.specs.Shown.{fail_word, close_word, shown_of}
 use Rattle.plain.specs.Corresponds.{Corresponds, packed_after, plain_after, StepAlike}
 use Rattle.plain.specs.declared.jet.Jet.{Jet}
-use Rattle.plain.specs.declared.jet.Place.TheVariants.{On}
+use Rattle.std.specs.Prelude.{Some}
 use Rattle.plain.specs.declared.string.PlainString.{PlainString}
 use Rattle.plain.specs.declared.hall.Plain.{Plain}
-use Rattle.plain.specs.declared.hall.PlainStepped.{PlainStepped}
 use Rattle.plain.proofs.Places.{nowhere, place-on, mapped-lt, refused-same}
 use Rattle.plain.proofs.Jets.{Whole}
 use Rattle.plain.proofs.Corresponding.{WholePlain, is_mapped, is-unmapped, answer-same, step-corresponds, step-whole}
@@ -80,7 +80,7 @@ fresh-close : (masks : List ℕ) (i : ℕ) → i < manifold_count → get_or (fr
 unfolding fresh_string
 fresh-close masks i l = get_or-replicate manifold_count i false false l
 
-packed-fresh-jet : (i j : ℕ) → i < manifold_count → with_state (On i) (jet_of i j fresh) ≡ fresh_on (On i)
+packed-fresh-jet : (i j : ℕ) → i < manifold_count → with_state (Some i) (jet_of i j fresh) ≡ fresh_on (Some i)
 packed-fresh-jet i j l = simp (bit-none, get_or-replicate {A = ℕ} manifold_count i 0 0 l, bit-ones manifold_count i l)
 
 together-fresh : (masks : List Masks) → FitMap masks → words.refused string_count masks ≡ false
@@ -100,7 +100,7 @@ together-fresh masks fit accepted = record {
         ∙ fresh-jet (masks_of masks s) j (in-fresh s i j b l stands)
         ∙ ap fresh_on (place-on manifold_count (masks_of masks s) (accepted-disjoint masks fit accepted s b) j i l stands)
         ∙ sym (packed-fresh-jet i j l)
-        ∙ ap (λ (x : StringState). with_state (On i) (jet_of i j x)) (sym (fresh-string masks s b));
+        ∙ ap (λ (x : StringState). with_state (Some i) (jet_of i j x)) (sym (fresh-string masks s b));
     unmapped = λ s j b c none.
         ap (λ (x : PlainString). jet_at x.jets j) (fresh_at masks s b)
         ∙ fresh-jet (masks_of masks s) j c
@@ -136,23 +136,23 @@ unfolding started packed.started
 start-same masks fit = rw (refused-same masks fit) (by-test (words.refused string_count masks))
   where
     by-test : (t : Bool)
-        → (cond {A = PlainStepped} t (record { answer = MapRefused; plain = fresh_plain (replicate string_count no_masks) })
-        (record { answer = Taken; plain = fresh_plain masks })).answer
-        ≡ (cond {A = Stepped} t (record { answer = MapRefused; hall = fresh_hall (replicate string_count no_masks) })
+        → (cond {A = Stepped Plain} t (record { answer = MapRefused; hall = fresh_plain (replicate string_count no_masks) })
+        (record { answer = Taken; hall = fresh_plain masks })).answer
+        ≡ (cond {A = Stepped Hall} t (record { answer = MapRefused; hall = fresh_hall (replicate string_count no_masks) })
         (record { answer = Taken; hall = fresh_hall masks })).answer
     by-test true = refl
     by-test false = refl
 
-pub together-started : (masks : List Masks) → FitMap masks → Together (packed.started masks).hall (started masks).plain
+pub together-started : (masks : List Masks) → FitMap masks → Together (packed.started masks).hall (started masks).hall
 unfolding started packed.started
 together-started masks fit = rw (refused-same masks fit) (by-test (words.refused string_count masks) refl)
   where
     by-test : (t : Bool) → words.refused string_count masks ≡ t
         → Together
-        (cond {A = Stepped} t (record { answer = MapRefused; hall = fresh_hall (replicate string_count no_masks) })
+        (cond {A = Stepped Hall} t (record { answer = MapRefused; hall = fresh_hall (replicate string_count no_masks) })
         (record { answer = Taken; hall = fresh_hall masks })).hall
-        (cond {A = PlainStepped} t (record { answer = MapRefused; plain = fresh_plain (replicate string_count no_masks) })
-        (record { answer = Taken; plain = fresh_plain masks })).plain
+        (cond {A = Stepped Plain} t (record { answer = MapRefused; hall = fresh_plain (replicate string_count no_masks) })
+        (record { answer = Taken; hall = fresh_plain masks })).hall
     by-test true e = together-fresh (replicate string_count no_masks) none-fits none-accepted
     by-test false e = together-fresh masks fit e
 
@@ -165,11 +165,11 @@ module _ (h : Hall) (p : Plain) (t : Together h p) (r : Record) where
     where
       by-verdict : (v : Verdict) → packed.verdict_on h.n h.masks r ≡ v
           → (string_of (packed.stepped_by v r h).hall s).close < 2 ^ manifold_count
-      by-verdict (Takes next) e =
+      by-verdict (Ok next) e =
           close-fits-after h t.proper (common r).wire next s b r (verdict-follows h.n h.masks r next e) (t.close_fits s b)
-      by-verdict (Refuses a) e = t.close_fits s b
+      by-verdict (Err a) e = t.close_fits s b
 
-  pub together-step : Together (packed.stepped r h).hall (stepped r p).plain
+  pub together-step : Together (packed.stepped r h).hall (stepped r p).hall
   together-step = record {
     proper = stepped-proper r h t.proper;
     close_fits = close-fits-step;
@@ -224,13 +224,14 @@ report-same h p t a =
     ∙ ap (λ (q : List ℕ). head_of (number_of a) h.n ++ (q ++ banks_bytes h.banks))
     (parts_same _ _ string_count
     (λ s b.
-    ap₂ string_bytes (table_at _ 0 string_count s b ∙ fail-same h p t s b) (table_at _ 0 string_count s b ∙ close-same h p t s b)))
+    ap₂ string_bytes (ap (λ (x : StringShown). x.fail) (table_at _ past_shown string_count s b) ∙ fail-same h p t s b)
+    (ap (λ (x : StringShown). x.close) (table_at _ past_shown string_count s b) ∙ close-same h p t s b)))
   where
     fails : ℕ → ℕ
-    fails s = get_or (shown_of p).fails s 0
+    fails s = fail_shown (shown_of p).strings s
 
     closes : ℕ → ℕ
-    closes s = get_or (shown_of p).closes s 0
+    closes s = close_shown (shown_of p).strings s
 
 -- ---- any run
 
@@ -243,8 +244,8 @@ pub step-alike : (h : Hall) (p : Plain) → Together h p → (r : Record) → St
 step-alike h p t r = record {
   answer = answer-same h p t.proper t.whole t.alike r;
   report =
-      ap (λ (a : Answer). report_shown a (shown_of (stepped r p).plain)) (answer-same h p t.proper t.whole t.alike r)
-      ∙ report-same (packed.stepped r h).hall (stepped r p).plain (together-step h p t r) (packed.stepped r h).answer;
+      ap (λ (a : Answer). report_shown a (shown_of (stepped r p).hall)) (answer-same h p t.proper t.whole t.alike r)
+      ∙ report-same (packed.stepped r h).hall (stepped r p).hall (together-step h p t r) (packed.stepped r h).answer;
   states = step-corresponds h p t.proper t.whole t.alike r;
 }
 

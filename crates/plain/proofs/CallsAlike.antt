@@ -3,7 +3,8 @@ use mathlib.Core.Path.{◌≡◌, refl, ap}
 use mathlib.Core.Bool.{Bool, true, false, cond}
 use mathlib.Core.List.{List, [], ◌∷◌, ◌++◌}
 use Prim.Native.Nat.{ℕ}
-use lib.Dec.{eqb, ltb}
+use Rattle.std.specs.Prelude.{is_some}
+use lib.Dec.{ltb}
 use lib.ListN.{length, take, drop}
 use Rattle.cycle.specs.Map.{FitMap}
 use Rattle.cycle.specs.Records.{Record}
@@ -12,6 +13,7 @@ use Rattle.cycle.specs.declared.answer.Answer.TheVariants.{OutboxShort, NothingS
 use Rattle.cycle.specs.declared.hall.Hall.{Hall}
 use Rattle.cycle.specs.declared.map.Masks.{Masks}
 use Rattle.feed.specs.Size.{report_length, outbox_needed}
+use Rattle.feed.specs.Format.{length_marked}
 use Rattle.feed.specs.Values.{values_of}
 use Rattle.feed.specs.Report.{report_of, report_shown}
 use Rattle.feed.specs.Call as packed
@@ -45,22 +47,14 @@ record BothResults (a : packed.Result) (b : Result) : Type 0 where
 
 module _ (h : Hall) (p : Plain) (t : Together h p) (x : Handed) (out : List ℕ) where
   abbrev settled : Record
-  settled = values_of (take x.long x.bytes)
+  settled = values_of (take (length_marked x.settled) x.bytes)
 
   by-record : StepAlike settled h p → BothResults (called_on x h out) (called_by x p out)
-  by-record s = by-test (eqb x.long 0)
+  by-record s = by-test (is_some x.settled)
     where
       by-test : (b : Bool)
           → BothResults
           (cond {A = packed.Result} b
-          (record {
-            outcome = record {
-              answer = NothingSettled;
-              used = x.used;
-              monitor = record { hall = h; held = x.reader.held; count = x.reader.count };
-            };
-            outbox = out;
-          })
           (record {
             outcome = record {
               answer = (hall.stepped settled h).answer;
@@ -68,23 +62,31 @@ module _ (h : Hall) (p : Plain) (t : Together h p) (x : Handed) (out : List ℕ)
               monitor = record { hall = (hall.stepped settled h).hall; held = x.reader.held; count = x.reader.count };
             };
             outbox = report_of (hall.stepped settled h).answer (hall.stepped settled h).hall ++ drop report_length out;
+          })
+          (record {
+            outcome = record {
+              answer = NothingSettled;
+              used = x.used;
+              monitor = record { hall = h; held = x.reader.held; count = x.reader.count };
+            };
+            outbox = out;
           }))
           (cond {A = Result} b
-          (record {
-            outcome = record { answer = NothingSettled; used = x.used; monitor = record { plain = p; reader = x.reader } };
-            outbox = out;
-          })
           (record {
             outcome = record {
               answer = (stepped settled p).answer;
               used = x.used;
-              monitor = record { plain = (stepped settled p).plain; reader = x.reader };
+              monitor = record { plain = (stepped settled p).hall; reader = x.reader };
             };
-            outbox = report_shown (stepped settled p).answer (shown_of (stepped settled p).plain) ++ drop report_length out;
+            outbox = report_shown (stepped settled p).answer (shown_of (stepped settled p).hall) ++ drop report_length out;
+          })
+          (record {
+            outcome = record { answer = NothingSettled; used = x.used; monitor = record { plain = p; reader = x.reader } };
+            outbox = out;
           }))
-      by-test true =
+      by-test false =
           record { answer = refl; used = refl; outbox = refl; monitors = record { engines = t; readers = refl } }
-      by-test false = record {
+      by-test true = record {
         answer = s.answer;
         used = refl;
         outbox = ap (λ (r : List ℕ). r ++ drop report_length out) s.report;

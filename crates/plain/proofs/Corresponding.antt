@@ -25,8 +25,8 @@ use Rattle.cycle.specs.Hall as packed
 use Rattle.cycle.specs.Proper.{ProperHall}
 use Rattle.cycle.specs.declared.hall.Hall.{Hall}
 use Rattle.cycle.specs.declared.number.Next.{Next}
-use Rattle.cycle.specs.declared.number.Verdict.{Verdict}
-use Rattle.cycle.specs.declared.number.Verdict.TheVariants.{Takes, Refuses}
+use Rattle.cycle.specs.Numbers.{Verdict}
+use Rattle.std.specs.Prelude.{Ok, Err}
 use Rattle.cycle.proofs.Each.{each-length, each_at}
 use Rattle.cycle.proofs.Maps.{in-word, mapped-jet, mapped-found}
 use Rattle.cycle.proofs.BothWays.{names-exactly}
@@ -39,7 +39,7 @@ use Rattle.plain.specs.String.{jet_at, said_at, drop_at, cycle, string_both_ways
 use Rattle.plain.specs.Hall.{string_at, cycles, both_ways, record_both_ways, taken, verdict_on, stepped_by, stepped}
 use Rattle.plain.specs.Corresponds.{Corresponds}
 use Rattle.plain.specs.declared.jet.Jet.{Jet}
-use Rattle.plain.specs.declared.jet.Place.TheVariants.{Nowhere, On}
+use Rattle.std.specs.Prelude.{Some, None}
 use Rattle.plain.specs.declared.said.JetSaid.{JetSaid}
 use Rattle.plain.specs.declared.said.StringSaid.{StringSaid}
 use Rattle.plain.specs.declared.string.PlainString.{PlainString}
@@ -215,17 +215,17 @@ module _ (h : Hall) (p : Plain) (proper : ProperHall h) (w : WholePlain p) (k : 
         ∙ heard-same next.n r p.strings s i j b l (inside s i j b l stands) (place-mapped s i j b l stands)
 
     taken-mapped : (s i j : ℕ) → s < string_count → i < manifold_count → InMask (masks_at s) i j
-        → jet_at (string_at (taken r next p) s).jets j ≡ with_state (On i) (jet_of i j (string_of (packed.taken r next h) s))
+        → jet_at (string_at (taken r next p) s).jets j ≡ with_state (Some i) (jet_of i j (string_of (packed.taken r next h) s))
     taken-mapped s i j b l stands =
         ap (λ (x : PlainString). jet_at x.jets j) (string-after r next p w s b)
         ∙ cycle-jet (said_of s) next (string_at p s) (w.each s b) h.n (major_kind r) f.gap f.missed f.kind j
         (inside s i j b l stands) (is_mapped s i j b l stands)
         ∙ ap (by (jets.cycle h.n (heard_by s j))) (k.mapped s i j b l stands)
-        ∙ ap (λ (q : JetRecord). with_state (On i) (jets.cycle h.n q (jet_of i j (string_of h s)))) (alike s i j b l stands)
-        ∙ ap (with_state (On i)) (sym (jet-after h proper (common r).wire next s b r f i j l stands))
+        ∙ ap (λ (q : JetRecord). with_state (Some i) (jets.cycle h.n q (jet_of i j (string_of h s)))) (alike s i j b l stands)
+        ∙ ap (with_state (Some i)) (sym (jet-after h proper (common r).wire next s b r f i j l stands))
 
     taken-unmapped : (s j : ℕ) → s < string_count → j < jet_count → Unmapped (masks_at s) j
-        → jet_at (string_at (taken r next p) s).jets j ≡ fresh_on Nowhere
+        → jet_at (string_at (taken r next p) s).jets j ≡ fresh_on None
     taken-unmapped s j b c none =
         ap (λ (x : PlainString). jet_at x.jets j) (string-after r next p w s b)
         ∙ cycle-still (said_of s) next (string_at p s) (w.each s b) h.n (major_kind r) f.gap f.missed f.kind j c
@@ -290,22 +290,22 @@ module _ (h : Hall) (p : Plain) (proper : ProperHall h) (w : WholePlain p) (k : 
   answer-same r = ap (λ (v : Verdict). (stepped_by v r p).answer) (verdict-same r) ∙ by-verdict (packed.verdict_on h.n h.masks r)
     where
       by-verdict : (v : Verdict) → (stepped_by v r p).answer ≡ (packed.stepped_by v r h).answer
-      by-verdict (Takes next) = refl
-      by-verdict (Refuses a) = refl
+      by-verdict (Ok next) = refl
+      by-verdict (Err a) = refl
 
-  pub step-corresponds : (r : Record) → Corresponds (packed.stepped r h).hall (stepped r p).plain
+  pub step-corresponds : (r : Record) → Corresponds (packed.stepped r h).hall (stepped r p).hall
   unfolding stepped packed.stepped
   step-corresponds r = rw (verdict-same r) (by-verdict (packed.verdict_on h.n h.masks r) refl)
     where
       by-verdict : (v : Verdict) → packed.verdict_on h.n h.masks r ≡ v
-          → Corresponds (packed.stepped_by v r h).hall (stepped_by v r p).plain
-      by-verdict (Takes next) e = taken-corresponds r next (verdict-follows h.n h.masks r next e)
-      by-verdict (Refuses a) e = k
+          → Corresponds (packed.stepped_by v r h).hall (stepped_by v r p).hall
+      by-verdict (Ok next) e = taken-corresponds r next (verdict-follows h.n h.masks r next e)
+      by-verdict (Err a) e = k
 
-  pub step-whole : (r : Record) → WholePlain (stepped r p).plain
+  pub step-whole : (r : Record) → WholePlain (stepped r p).hall
   unfolding stepped
   step-whole r = rw (verdict-same r) (by-verdict (packed.verdict_on h.n h.masks r) refl)
     where
-      by-verdict : (v : Verdict) → packed.verdict_on h.n h.masks r ≡ v → WholePlain (stepped_by v r p).plain
-      by-verdict (Takes next) e = taken-whole r next (verdict-follows h.n h.masks r next e)
-      by-verdict (Refuses a) e = w
+      by-verdict : (v : Verdict) → packed.verdict_on h.n h.masks r ≡ v → WholePlain (stepped_by v r p).hall
+      by-verdict (Ok next) e = taken-whole r next (verdict-follows h.n h.masks r next e)
+      by-verdict (Err a) e = w

@@ -14,8 +14,8 @@ use Rattle.cycle.specs.declared.answer.Answer.TheVariants.{Taken, MapRefused, Bo
 use Rattle.cycle.specs.Map.{no_masks}
 use Rattle.cycle.specs.declared.map.Masks.{Masks}
 use Rattle.cycle.specs.declared.number.Next.{Next}
-use Rattle.cycle.specs.declared.number.Verdict.{Verdict}
-use Rattle.cycle.specs.declared.number.Verdict.TheVariants.{Takes, Refuses}
+use Rattle.cycle.specs.Numbers.{Verdict}
+use Rattle.std.specs.Prelude.{Ok, Err}
 use Rattle.cycle.specs.declared.values.Minor.{Minor}
 use Rattle.cycle.specs.declared.values.Sample.{Sample}
 use Rattle.cycle.specs.declared.values.Temperatures.{Temperatures}
@@ -31,25 +31,21 @@ use Rattle.plain.specs.declared.string.PlainString.{PlainString}
 
 -- ---- by the verdict
 
-module _ (r : Record) (p : Plain) {v : Verdict} (e : v ≡ judged p.n (common r).wire (major_kind r)) where
-  pub step-refuses : (a : Answer) → v ≡ Refuses a → record { answer = a; plain = p } ≡ stepped r p
+module _ (r : Record) (p : Plain) where
+  pub step-refuses : (a : Answer) → Err a ≡ judged p.n (common r).wire (major_kind r) → record { answer = a; hall = p } ≡ stepped r p
   unfolding stepped verdict_on unless_both_ways
-  step-refuses a q =
-      let w : judged p.n (common r).wire (major_kind r) ≡ Refuses a = sym e ∙ q in
-      ap (λ (x : Verdict). stepped_by (unless_both_ways (record_both_ways r p) x) r p) (sym w)
+  step-refuses a w = ap (λ (x : Verdict). stepped_by (unless_both_ways (record_both_ways r p) x) r p) w
 
-  module _ (next : Next) (q : v ≡ Takes next) {both : Bool} (named : both ≡ record_both_ways r p) where
-    pub step-named : both ≡ true → record { answer = BothWays; plain = p } ≡ stepped r p
+  module _ (next : Next) (w : Ok next ≡ judged p.n (common r).wire (major_kind r)) {both : Bool} (named : both ≡ record_both_ways r p) where
+    pub step-named : both ≡ true → record { answer = BothWays; hall = p } ≡ stepped r p
     unfolding stepped verdict_on unless_both_ways
     step-named t =
-        let w : Takes next ≡ judged p.n (common r).wire (major_kind r) = sym q ∙ e in
         ap₂ (λ (b : Bool) (x : Verdict). stepped_by (unless_both_ways b x) r p) (sym t ∙ named) w
 
-    pub step-takes : both ≡ false → {x : Plain} → x ≡ taken r next p → record { answer = Taken; plain = x } ≡ stepped r p
+    pub step-takes : both ≡ false → {x : Plain} → x ≡ taken r next p → record { answer = Taken; hall = x } ≡ stepped r p
     unfolding stepped verdict_on unless_both_ways
     step-takes t g =
-        let w : Takes next ≡ judged p.n (common r).wire (major_kind r) = sym q ∙ e in
-        ap (λ (y : Plain). record { answer = Taken; plain = y }) g
+        ap (λ (y : Plain). record { answer = Taken; hall = y }) g
         ∙ ap₂ (λ (b : Bool) (x : Verdict). stepped_by (unless_both_ways b x) r p) (sym t ∙ named) w
 
 -- ---- a minor record: requests and temperatures that are all 0 say nothing
@@ -90,10 +86,10 @@ opened-silent r k l = table_same _ _ string_count string
 
 module _ (masks : List Masks) {r : Bool} {p : Plain} where
   pub refused-start : r ≡ refused string_count masks → r ≡ true → {x : Masks} → x ≡ no_masks → p ≡ fresh_plain (replicate string_count x)
-      → record { answer = MapRefused; plain = p } ≡ started masks
+      → record { answer = MapRefused; hall = p } ≡ started masks
   unfolding started
   refused-start e q n f = rw (← e, q, f, n)
 
-  pub taken_start : r ≡ refused string_count masks → r ≡ false → p ≡ fresh_plain masks → record { answer = Taken; plain = p } ≡ started masks
+  pub taken_start : r ≡ refused string_count masks → r ≡ false → p ≡ fresh_plain masks → record { answer = Taken; hall = p } ≡ started masks
   unfolding started
   taken_start e q f = rw (← e, q, f)

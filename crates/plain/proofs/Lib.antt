@@ -1,5 +1,6 @@
 pub mod Steps
 pub mod Loops
+pub mod Closures
 pub mod Halls
 pub mod Places
 pub mod Calling

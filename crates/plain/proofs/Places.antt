@@ -19,26 +19,26 @@ use Rattle.cycle.specs.Proper.{Disjoint}
 use Rattle.cycle.specs.declared.map.Masks.{Masks}
 use Rattle.cycle.proofs.Maps.{in-word, refused-exactly}
 use Rattle.plain.specs.Map.{place_in, in_one, in_two, string_refused, refused}
-use Rattle.plain.specs.declared.jet.Place.TheVariants.{Nowhere, On}
+use Rattle.std.specs.Prelude.{Some, None}
 
 -- ---- places
 
 module _ (masks : List ℕ) (j : ℕ) where
   -- in none of the lowest n masks
-  pub nowhere : (n : ℕ) → ((i : ℕ) → i < n → InMask masks i j → ⊥) → place_in n masks j ≡ Nowhere
+  pub nowhere : (n : ℕ) → ((i : ℕ) → i < n → InMask masks i j → ⊥) → place_in n masks j ≡ None
   unfolding place_in
   nowhere zero none = refl
   nowhere (suc n) none =
       rw (not_yes (bit j (get_or masks n 0)) (none n (omega arith))) (nowhere n (λ i l. none i (omega arith)))
 
   -- in mask i and in no other
-  pub on : (n i : ℕ) → i < n → InMask masks i j → ((k : ℕ) → k < n → InMask masks k j → i ≡ k) → place_in n masks j ≡ On i
+  pub on : (n i : ℕ) → i < n → InMask masks i j → ((k : ℕ) → k < n → InMask masks k j → i ≡ k) → place_in n masks j ≡ Some i
   unfolding place_in
   on zero i l stands alone = absurd (not-suc-le-zero l)
   on (suc n) i l stands alone = by (λ b. on n i b stands (λ k m. alone k (omega arith))) (bit j (get_or masks n 0)) refl
     where
-      by : (i < n → place_in n masks j ≡ On i) → (b : Bool) → bit j (get_or masks n 0) ≡ b → cond b (On n) (place_in n masks j) ≡ On i
-      by lower true e = ap On (sym (alone n (omega arith) e))
+      by : (i < n → place_in n masks j ≡ Some i) → (b : Bool) → bit j (get_or masks n 0) ≡ b → cond b (Some n) (place_in n masks j) ≡ Some i
+      by lower true e = ap Some (sym (alone n (omega arith) e))
       by lower false e =
           ⊎_elim (λ (q : i ≡ n). not-both (bit j (get_or masks n 0)) (ap (λ (k : ℕ). bit j (get_or masks k 0)) (sym q) ∙ stands) e)
           lower
@@ -46,7 +46,7 @@ module _ (masks : List ℕ) (j : ℕ) where
 
 -- over disjoint masks
 module _ (m : ℕ) (masks : List ℕ) (d : Disjoint m masks) (j : ℕ) where
-  pub place-on : (i : ℕ) → i < m → InMask masks i j → place_in m masks j ≡ On i
+  pub place-on : (i : ℕ) → i < m → InMask masks i j → place_in m masks j ≡ Some i
   place-on i l stands = on masks j m i l stands (λ k b other. d.apart i k j l b stands other)
 
 -- the mapped jets of masks that are words are a word

@@ -1,14 +1,10 @@
 -- The steps of one jet, over plain values: what its methods give is what the rules do. Assumes nothing.
 use mathlib.Core.Path.{◌≡◌, ap, ◌∙◌}
-use mathlib.Core.Bool.{Bool, true, false, cond}
+use mathlib.Core.Bool.{Bool, true, false}
 use Rattle.cycle.specs.Jets.{recovered, gapped, off_failure, valve_closes, valve_opens, valve_moved, manifold_step}
-use Rattle.cycle.specs.declared.number.Next.{Next}
 use Rattle.plain.specs.Jet.{by, minor_rules}
-use Rattle.plain.specs.String.{path_lost, minor_steps, major_steps, steps}
 use Rattle.plain.specs.declared.jet.Jet.{Jet}
 use Rattle.plain.specs.declared.said.JetSaid.{JetSaid}
-use Rattle.plain.specs.declared.said.StringSaid.{StringSaid}
-use Rattle.plain.specs.declared.string.PlainString.{PlainString}
 
 -- step 4: by the valve remembered and the valve now
 module _ (x : Jet) {was now : Bool} where
@@ -39,22 +35,3 @@ minor-chain gap missed said x a b d e =
     e
     ∙ ap (by (manifold_step said.valve))
     (d ∙ ap (by (off_failure said.commanded said.pressure)) (b ∙ ap (by (gapped gap missed)) a))
-
--- ---- a string, by its path bit and the kind of the record
-
-pick_first : {A : Type 0} (b : Bool) (x y : A) → b ≡ true → x ≡ cond b x y
-pick_first b x y e = rw e
-
-pick_second : {A : Type 0} (b : Bool) (x y : A) → b ≡ false → y ≡ cond b x y
-pick_second b x y e = rw e
-
-module _ (said : StringSaid) (next : Next) (major : Bool) (s : PlainString) {x : PlainString} where
-  pub steps-lost : said.path ≡ true → x ≡ path_lost s → x ≡ steps said next major s
-  steps-lost p e = e ∙ pick_first said.path _ _ p
-
-  pub steps-major : {after : PlainString} → said.path ≡ false → major ≡ true → after ≡ minor_steps said next.gap next.missed s
-      → x ≡ major_steps said after → x ≡ steps said next major s
-  steps-major p k e f = f ∙ ap (major_steps said) e ∙ pick_first major _ _ k ∙ pick_second said.path _ _ p
-
-  pub steps-minor : said.path ≡ false → major ≡ false → x ≡ minor_steps said next.gap next.missed s → x ≡ steps said next major s
-  steps-minor p k e = e ∙ pick_second major _ _ k ∙ pick_second said.path _ _ p

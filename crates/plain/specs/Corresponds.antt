@@ -1,6 +1,6 @@
 -- 02, order 5: "both give the same reports and corresponding states on every run of records from fresh". Lists are the newest first.
 -- Assumes nothing.
-use Rattle.std.specs.Prelude.{◌≡◌, false, List, [], ◌∷◌, ℕ, ◌<◌, get_or}
+use Rattle.std.specs.Prelude.{◌≡◌, false, List, [], ◌∷◌, ℕ, ◌<◌, get_or, Some, None}
 use Rattle.bits.specs.Bit.{bit}
 use Rattle.cycle.specs.Size.{string_count, jet_count, manifold_count}
 use Rattle.cycle.specs.Map.{masks_of, InMask}
@@ -17,7 +17,6 @@ use Rattle.plain.specs.String.{jet_at}
 use Rattle.plain.specs.Hall as plain
 use Rattle.plain.specs.Hall.{string_at}
 use Rattle.plain.specs.Shown.{shown_of}
-use Rattle.plain.specs.declared.jet.Place.TheVariants.{Nowhere, On}
 use Rattle.plain.specs.declared.hall.Plain.{Plain}
 
 -- each mapped jet j of string s, on manifold i, is what the packed words say at bit j, every field; an unmapped jet is fresh; a manifold is
@@ -26,9 +25,9 @@ use Rattle.plain.specs.declared.hall.Plain.{Plain}
 pub record Corresponds (h : Hall) (p : Plain) : Type 0 where
   pub number : p.n ≡ h.n
   pub mapped : (s i j : ℕ) → s < string_count → i < manifold_count → InMask (masks_of h.masks s) i j
-      → jet_at (string_at p s).jets j ≡ with_state (On i) (jet_of i j (string_of h s))
+      → jet_at (string_at p s).jets j ≡ with_state (Some i) (jet_of i j (string_of h s))
   pub unmapped : (s j : ℕ) → s < string_count → j < jet_count → Unmapped (masks_of h.masks s) j
-      → jet_at (string_at p s).jets j ≡ fresh_on Nowhere
+      → jet_at (string_at p s).jets j ≡ fresh_on None
   pub closes : (s i : ℕ) → s < string_count → i < manifold_count → get_or (string_at p s).close i false ≡ bit i (string_of h s).close
   pub banks : p.banks ≡ h.banks
 
@@ -38,12 +37,12 @@ packed_after masks [] = (packed.started masks).hall
 packed_after masks (r ∷ rs) = (packed.stepped r (packed_after masks rs)).hall
 
 unfoldable pub plain_after : List Masks → List Record → Plain
-plain_after masks [] = (plain.started masks).plain
-plain_after masks (r ∷ rs) = (plain.stepped r (plain_after masks rs)).plain
+plain_after masks [] = (plain.started masks).hall
+plain_after masks (r ∷ rs) = (plain.stepped r (plain_after masks rs)).hall
 
 -- what both do with one more record: the same answer, the same report bytes, and corresponding states
 pub record StepAlike (r : Record) (h : Hall) (p : Plain) : Type 0 where
   pub answer : (plain.stepped r p).answer ≡ (packed.stepped r h).answer
-  pub report : report_shown (plain.stepped r p).answer (shown_of (plain.stepped r p).plain)
+  pub report : report_shown (plain.stepped r p).answer (shown_of (plain.stepped r p).hall)
       ≡ report_of (packed.stepped r h).answer (packed.stepped r h).hall
-  pub states : Corresponds (packed.stepped r h).hall (plain.stepped r p).plain
+  pub states : Corresponds (packed.stepped r h).hall (plain.stepped r p).hall

@@ -12,15 +12,15 @@ use Rattle.cycle.specs.Hall.{unless_both_ways}
 use Rattle.cycle.specs.declared.answer.Answer.TheVariants.{Taken, MapRefused}
 use Rattle.cycle.specs.declared.map.Masks.{Masks}
 use Rattle.cycle.specs.declared.number.Next.{Next}
-use Rattle.cycle.specs.declared.number.Verdict.{Verdict}
-use Rattle.cycle.specs.declared.number.Verdict.TheVariants.{Takes, Refuses}
+use Rattle.cycle.specs.Numbers.{Verdict}
+use Rattle.std.specs.Prelude.{Ok, Err}
 use Rattle.plain.specs.Said.{silent, past_string, opened_record}
 use Rattle.plain.specs.Map.{refused, fresh_string}
 use Rattle.plain.specs.String.{cycle, string_both_ways}
 use Rattle.plain.specs.declared.said.StringSaid.{StringSaid}
 use Rattle.plain.specs.declared.string.PlainString.{PlainString}
 use Rattle.plain.specs.declared.hall.Plain.{Plain}
-use Rattle.plain.specs.declared.hall.PlainStepped.{PlainStepped}
+use Rattle.cycle.specs.declared.hall.Stepped.{Stepped}
 
 -- string s
 abbrev pub string_at : Plain → ℕ → PlainString
@@ -32,10 +32,10 @@ fresh_plain masks =
     record { n = 0; strings = table string_count (λ s. fresh_string (masks_of masks s)); banks = replicate module_count no_bank }
 
 -- starting over a map: 6 "if two masks of one string overlap", and then "a fresh one over the empty map"
-unfoldable pub started : List Masks → PlainStepped
+unfoldable pub started : List Masks → Stepped Plain
 started masks =
-    cond (refused string_count masks) (record { answer = MapRefused; plain = fresh_plain (replicate string_count no_masks) })
-    (record { answer = Taken; plain = fresh_plain masks })
+    cond (refused string_count masks) (record { answer = MapRefused; hall = fresh_plain (replicate string_count no_masks) })
+    (record { answer = Taken; hall = fresh_plain masks })
 
 -- a taken record's cycle, for the lowest n strings; kind: is it major
 unfoldable pub cycles : ℕ → List StringSaid → Next → Bool → List PlainString → List PlainString
@@ -66,9 +66,9 @@ unfoldable pub verdict_on : Record → Plain → Verdict
 verdict_on r p = unless_both_ways (record_both_ways r p) (judged p.n (common r).wire (major_kind r))
 
 -- "stepped", or "as before"
-abbrev pub stepped_by : Verdict → Record → Plain → PlainStepped
-stepped_by (Takes next) r p = record { answer = Taken; plain = taken r next p }
-stepped_by (Refuses a) r p = record { answer = a; plain = p }
+abbrev pub stepped_by : Verdict → Record → Plain → Stepped Plain
+stepped_by (Ok next) r p = record { answer = Taken; hall = taken r next p }
+stepped_by (Err a) r p = record { answer = a; hall = p }
 
-unfoldable pub stepped : Record → Plain → PlainStepped
+unfoldable pub stepped : Record → Plain → Stepped Plain
 stepped r p = stepped_by (verdict_on r p) r p

@@ -1,32 +1,29 @@
 -- The plain engine's jet, and the rules of one jet (cycle's Jets) that its methods are. Assumes nothing.
-use Rattle.std.specs.Prelude.{Bool, false, cond, ℕ, ltb}
+use Rattle.std.specs.Prelude.{Bool, false, cond, ℕ, ltb, Option, None, unwrap_or}
 use Rattle.cycle.specs.Size.{manifold_count}
 use Rattle.cycle.specs.Jets.{JetRecord, fresh_jet, no_off, no_on, recovered, gapped, off_failure, manifold_step}
 use Rattle.cycle.specs.declared.jet.JetStanding.{JetStanding}
 use Rattle.cycle.specs.declared.jet.JetState.{JetState}
 use Rattle.plain.specs.declared.jet.Jet.{Jet}
-use Rattle.plain.specs.declared.jet.Place.{Place}
-use Rattle.plain.specs.declared.jet.Place.TheVariants.{Nowhere, On}
 use Rattle.plain.specs.declared.said.JetSaid.{JetSaid}
 
 -- the number of the manifold that it stands on; as many as there are manifolds, or more: none
-abbrev pub place_of : Place → ℕ
-place_of Nowhere = manifold_count
-place_of (On i) = i
+abbrev pub place_of : Option ℕ → ℕ
+place_of p = unwrap_or p manifold_count
 
 -- what is remembered of it
 abbrev pub state_of : Jet → JetState
 state_of x = record { standing = x.standing; good = x.good; off = x.off; on = x.on; over = x.over; lost = x.lost }
 
 -- the jet at its place, with this remembered of it
-abbrev pub with_state : Place → JetState → Jet
+abbrev pub with_state : Option ℕ → JetState → Jet
 with_state p s = record { place = p; standing = s.standing; good = s.good; off = s.off; on = s.on; over = s.over; lost = s.lost }
 
 -- the jet by a rule: its place stays
 abbrev pub by : (JetState → JetState) → Jet → Jet
 by rule x = with_state x.place (rule (state_of x))
 
-abbrev pub fresh_on : Place → Jet
+abbrev pub fresh_on : Option ℕ → Jet
 fresh_on p = with_state p fresh_jet
 
 -- what stands past the end of an array of jets
@@ -35,7 +32,7 @@ no_standing = record { fail = false; valve = false; saved = false }
 
 abbrev pub past_jet : Jet
 past_jet = record {
-  place = Nowhere;
+  place = None;
   standing = no_standing;
   good = no_standing;
   off = no_off;

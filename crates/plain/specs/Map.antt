@@ -1,19 +1,17 @@
 -- The map, jet by jet. Assumes nothing.
-use Rattle.std.specs.Prelude.{Bool, false, cond, ◌&&◌, ◌||◌, List, ℕ, zero, suc, get_or, replicate}
+use Rattle.std.specs.Prelude.{Bool, false, cond, ◌&&◌, ◌||◌, List, ℕ, zero, suc, get_or, replicate, Option, Some, None}
 use Rattle.bits.specs.Bit.{bit, any}
 use Rattle.cycle.specs.Size.{jet_count, manifold_count}
 use Rattle.cycle.specs.Each.{table}
 use Rattle.cycle.specs.Map.{masks_of}
 use Rattle.cycle.specs.declared.map.Masks.{Masks}
 use Rattle.plain.specs.Jet.{fresh_on}
-use Rattle.plain.specs.declared.jet.Place.{Place}
-use Rattle.plain.specs.declared.jet.Place.TheVariants.{Nowhere, On}
 use Rattle.plain.specs.declared.string.PlainString.{PlainString}
 
 -- the manifold, of the lowest n, whose mask has jet j: the highest, if there are several
-unfoldable pub place_in : ℕ → List ℕ → ℕ → Place
-place_in zero masks j = Nowhere
-place_in (suc i) masks j = cond (bit j (get_or masks i 0)) (On i) (place_in i masks j)
+unfoldable pub place_in : ℕ → List ℕ → ℕ → Option ℕ
+place_in zero masks j = None
+place_in (suc i) masks j = cond (bit j (get_or masks i 0)) (Some i) (place_in i masks j)
 
 -- jet j stands in one of the lowest n masks, and in two of them
 unfoldable pub in_one : ℕ → List ℕ → ℕ → Bool

@@ -21,7 +21,7 @@ close_word n close = pack n (λ i. get_or close i false)
 unfoldable pub shown_of : Plain → Shown
 shown_of p = record {
   n = p.n;
-  fails = table string_count (λ s. fail_word jet_count (string_at p s).jets);
-  closes = table string_count (λ s. close_word manifold_count (string_at p s).close);
+  strings = table string_count
+      (λ s. record { fail = fail_word jet_count (string_at p s).jets; close = close_word manifold_count (string_at p s).close });
   banks = p.banks;
 }

@@ -8,65 +8,28 @@ ghost use Rattle.cycle.specs.Jets.{is_bad, asks, on_failure, kept};
 ghost use Rattle.plain.specs.Jet.{by, state_of, place_of, fresh_on, record_of, minor_rules, mapped_jet, if_mapped};
 
 use crate::said::JetSaid;
-use cycle::jet::{JetOff, JetOn, JetOverrides, JetStanding};
+use cycle::jet::JetStanding;
+use cycle::number::Next;
 use cycle::size::{BELOW_ZERO_FROM, LEAK_MOST, MANIFOLDS};
-
-// The manifold that a jet stands on: its number, or none.
-#[derive(Clone, Copy)]
-pub enum Place {
-    Nowhere,
-    On(usize),
-}
+use cycle::slots::{OffSlots, OnSlots, Overrides};
 
 // What is remembered of a jet, grouped as the rules group it (cycle's JetState), and its place in the map.
 #[derive(Clone, Copy)]
 pub struct Jet {
-    pub place: Place,
+    // The number of the manifold that it stands on, if it stands on one.
+    pub place: Option<usize>,
     pub standing: JetStanding,
     pub good: JetStanding,
-    pub off: JetOff,
-    pub on: JetOn,
-    pub over: JetOverrides,
+    pub off: OffSlots<bool>,
+    pub on: OnSlots<bool>,
+    pub over: Overrides<bool>,
     // A path fault of its string is remembered.
     pub lost: bool,
 }
 
-// Three off slots, two on slots and the recheck: none of them set.
-fn no_off() -> JetOff
-    ensures { result ≡ no_off }
-{
-    JetOff {
-        newest: false,
-        older: false,
-        oldest: false,
-    }
-}
-
-fn no_on() -> JetOn
-    ensures { result ≡ no_on }
-{
-    JetOn {
-        newest: false,
-        older: false,
-        recheck: false,
-    }
-}
-
-impl Place {
-    // The manifold's number; as many as there are manifolds, or more: none.
-    pub(crate) fn number(self) -> usize
-        ensures { result ≡ place_of self }
-    {
-        match self {
-            Place::Nowhere => MANIFOLDS,
-            Place::On(i) => i,
-        }
-    }
-}
-
 impl Jet {
     // "Fresh: every word 0, no path fault remembered, .. good copy the same." 02, order 7: "At fresh all eight are remembered as open."
-    pub(crate) fn fresh(place: Place) -> Jet
+    pub(crate) fn fresh(place: Option<usize>) -> Jet
         ensures { result ≡ fresh_on place }
     {
         let standing = JetStanding {
@@ -75,25 +38,28 @@ impl Jet {
             saved: false,
         };
         Jet {
-            place: place,
-            standing: standing,
+            place,
+            standing,
             good: standing,
-            off: no_off(),
-            on: no_on(),
-            over: JetOverrides {
-                inhibit: false,
-                reenable: false,
-            },
+            off: OffSlots::default(),
+            on: OnSlots::default(),
+            over: Overrides::default(),
             lost: false,
         }
+    }
+
+    // Its manifold's number; as many as there are manifolds, or more: none.
+    pub(crate) fn manifold_number(self) -> usize
+        ensures { result ≡ place_of self.place }
+    {
+        self.place.unwrap_or(MANIFOLDS)
     }
 
     // Does it stand in a mask?
     pub(crate) fn is_mapped(self) -> bool
         ensures { result ≡ mapped_jet self }
     {
-        let place = self.place;
-        place.number() < MANIFOLDS
+        self.manifold_number() < MANIFOLDS
     }
 
     // "Bits and temperatures of jets in no mask are ignored everywhere": whatever the steps made of such a jet, it is what it was before.
@@ -118,12 +84,9 @@ impl Jet {
         ensures { result ≡ by recovered self }
     {
         if self.lost {
-            let standing = self.good;
-            let off = no_off();
-            let on = no_on();
-            self.standing = standing;
-            self.off = off;
-            self.on = on;
+            self.standing = self.good;
+            self.off = OffSlots::default();
+            self.on = OnSlots::default();
             self.lost = false;
         }
         self
@@ -134,8 +97,7 @@ impl Jet {
         ensures { result ≡ by (off_cleared gap) self }
     {
         if gap {
-            let off = no_off();
-            self.off = off;
+            self.off = OffSlots::default();
         }
         self
     }
@@ -145,18 +107,16 @@ impl Jet {
         ensures { result ≡ by (on_cleared missed) self }
     {
         if missed {
-            let on = no_on();
-            self.on = on;
+            self.on = OnSlots::default();
         }
         self
     }
 
-    // Step 2. gap: d exceeds 1; missed: a multiple of 25 lies between.
-    fn gapped(self, gap: bool, missed: bool) -> Jet
-        ensures { result ≡ by (gapped gap missed) self }
+    // Step 2. `next.gap`: d exceeds 1; `next.missed`: a multiple of 25 lies between.
+    fn gapped(self, next: Next) -> Jet
+        ensures { result ≡ by (gapped next.gap next.missed) self }
     {
-        let cleared = self.off_cleared(gap);
-        cleared.on_cleared(missed)
+        self.off_cleared(next.gap).on_cleared(next.missed)
     }
 
     // 3. Off failure (000, 2.2.4: OFFAIL). "Three slots shift; the newest is 'C and not P'. Fail gains the jets that stand in all three,
@@ -165,16 +125,14 @@ impl Jet {
         ensures { result ≡ by (off_failure commanded pressure) self }
     {
         let was = self.off;
-        let off = JetOff {
+        let off = OffSlots {
             newest: commanded & !pressure,
             older: was.newest,
             oldest: was.older,
         };
-        let mut standing = self.standing;
-        standing.fail = (standing.fail | (off.newest & off.older & off.oldest))
+        self.standing.fail = (self.standing.fail | (off.newest & off.older & off.oldest))
             & !self.over.reenable;
         self.off = off;
-        self.standing = standing;
         self
     }
 
@@ -183,13 +141,9 @@ impl Jet {
     fn valve_closes(mut self) -> Jet
         ensures { result ≡ by valve_closes self }
     {
-        let mut standing = self.standing;
-        let mut over = self.over;
-        standing.saved = !standing.fail;
-        standing.fail = true;
-        over.reenable = false;
-        self.standing = standing;
-        self.over = over;
+        self.standing.saved = !self.standing.fail;
+        self.standing.fail = true;
+        self.over.reenable = false;
         self
     }
 
@@ -197,9 +151,7 @@ impl Jet {
     fn valve_opens(mut self) -> Jet
         ensures { result ≡ by valve_opens self }
     {
-        let mut standing = self.standing;
-        standing.fail = standing.fail & !standing.saved;
-        self.standing = standing;
+        self.standing.fail &= !self.standing.saved;
         self
     }
 
@@ -207,10 +159,10 @@ impl Jet {
     fn valve_moved(self, now: bool) -> Jet
         ensures { result ≡ by (valve_moved self.standing.valve now) self }
     {
-        if self.standing.valve {
-            if now { self } else { self.valve_closes() }
-        } else {
-            if now { self.valve_opens() } else { self }
+        match (self.standing.valve, now) {
+            (true, false) => self.valve_closes(),
+            (false, true) => self.valve_opens(),
+            _ => self,
         }
     }
 
@@ -218,10 +170,8 @@ impl Jet {
     fn remembered(mut self, now: bool) -> Jet
         ensures { result ≡ by (remembered now) self }
     {
-        let mut standing = self.standing;
-        standing.fail = standing.fail | self.over.inhibit;
-        standing.valve = now;
-        self.standing = standing;
+        self.standing.fail |= self.over.inhibit;
+        self.standing.valve = now;
         self
     }
 
@@ -229,31 +179,26 @@ impl Jet {
     fn manifold(self, now: bool) -> Jet
         ensures { result ≡ by (manifold_step now) self }
     {
-        let moved = self.valve_moved(now);
-        moved.remembered(now)
+        self.valve_moved(now).remembered(now)
     }
 
     // Steps 1 to 4, the path bit being clear.
-    pub(crate) fn minor_steps(self, said: JetSaid, gap: bool, missed: bool) -> Jet
-        ensures { result ≡ by (minor_rules gap missed said) self }
+    pub(crate) fn minor_steps(self, said: JetSaid, next: Next) -> Jet
+        ensures { result ≡ by (minor_rules next.gap next.missed said) self }
     {
-        let path = self.recovered();
-        let gapped = path.gapped(gap, missed);
-        let off = gapped.off_failure(said.commanded, said.pressure);
-        off.manifold(said.valve)
+        self.recovered()
+            .gapped(next)
+            .off_failure(said.commanded, said.pressure)
+            .manifold(said.valve)
     }
 
     // 5. Requests (000, 1.3.4.3: OVERRIDE_UPDATE). "Inhibit: the inhibit comes in force, re-enable lapses, the jet fails."
     fn inhibited(mut self) -> Jet
         ensures { result ≡ by inhibited self }
     {
-        let mut standing = self.standing;
-        let mut over = self.over;
-        over.inhibit = true;
-        over.reenable = false;
-        standing.fail = true;
-        self.standing = standing;
-        self.over = over;
+        self.over.inhibit = true;
+        self.over.reenable = false;
+        self.standing.fail = true;
         self
     }
 
@@ -261,13 +206,9 @@ impl Jet {
     fn reenabled(mut self) -> Jet
         ensures { result ≡ by reenabled self }
     {
-        let mut standing = self.standing;
-        let mut over = self.over;
-        over.inhibit = false;
-        over.reenable = true;
-        standing.fail = false;
-        self.standing = standing;
-        self.over = over;
+        self.over.inhibit = false;
+        self.over.reenable = true;
+        self.standing.fail = false;
         self
     }
 
@@ -278,16 +219,10 @@ impl Jet {
     {
         if inhibit {
             self.inhibited()
+        } else if reenable && self.standing.valve {
+            self.reenabled()
         } else {
-            if reenable {
-                if self.standing.valve {
-                    self.reenabled()
-                } else {
-                    self
-                }
-            } else {
-                self
-            }
+            self
         }
     }
 }
@@ -324,15 +259,13 @@ impl Jet {
         ensures { result ≡ by (on_failure bad) self }
     {
         let was = self.on;
-        let on = JetOn {
+        let on = OnSlots {
             newest: bad,
             older: was.newest,
             recheck: bad & was.newest & !self.over.reenable,
         };
-        let mut standing = self.standing;
-        standing.fail = standing.fail | on.recheck;
+        self.standing.fail |= on.recheck;
         self.on = on;
-        self.standing = standing;
         self
     }
 
@@ -341,8 +274,7 @@ impl Jet {
     pub(crate) fn kept(mut self) -> Jet
         ensures { result ≡ by kept self }
     {
-        let standing = self.standing;
-        self.good = standing;
+        self.good = self.standing;
         self
     }
 }

@@ -6,22 +6,18 @@ ghost use Rattle.plain.specs.Shown.{fail_word, close_word, shown_of};
 use crate::hall::Plain;
 use crate::string::PlainString;
 use bits::with_bit;
-use cycle::size::{JETS, MANIFOLDS, STRINGS};
-use feed::report::Shown;
+use cycle::size::{JETS, MANIFOLDS};
+use feed::report::{Shown, StringShown};
 
 impl PlainString {
     // Bit j: jet j has failed. Bits of jets in no mask "are 0 in reports".
     fn fail_word(self) -> u32
         ensures { result ≡ fail_word jet_count self.jets }
     {
-        let jets = self.jets;
         let mut w: u32 = 0;
-        let mut j: usize = 0;
-        while j < JETS {
-            let jet = jets[j];
-            let standing = jet.standing;
-            w = with_bit(w, j, jet.is_mapped() & standing.fail);
-            j += 1;
+        for j in 0..JETS {
+            let jet = self.jets[j];
+            w = with_bit(w, j, jet.is_mapped() & jet.standing.fail);
         }
         w
     }
@@ -30,12 +26,9 @@ impl PlainString {
     fn close_word(self) -> u32
         ensures { result ≡ close_word manifold_count self.close }
     {
-        let close = self.close;
         let mut w: u32 = 0;
-        let mut i: usize = 0;
-        while i < MANIFOLDS {
-            w = with_bit(w, i, close[i]);
-            i += 1;
+        for i in 0..MANIFOLDS {
+            w = with_bit(w, i, self.close[i]);
         }
         w
     }
@@ -46,22 +39,15 @@ impl Plain {
     pub fn shown(self) -> Shown
         ensures { result ≡ shown_of self }
     {
-        let strings = self.strings;
-        let mut fails = [0u32; STRINGS];
-        let mut closes = [0u32; STRINGS];
-        let mut s: usize = 0;
-        while s < STRINGS {
-            let string = strings[s];
-            fails[s] = string.fail_word();
-            closes[s] = string.close_word();
-            s += 1;
-        }
+        let strings = self.strings.map(|x| StringShown {
+            fail: x.fail_word(),
+            close: x.close_word(),
+        });
         let banks = self.banks;
         Shown {
             n: self.n,
-            fails: fails,
-            closes: closes,
-            banks: banks,
+            strings,
+            banks,
         }
     }
 }

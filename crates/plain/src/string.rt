@@ -5,12 +5,13 @@ ghost use Rattle.plain.specs.Map.{fresh_string};
 ghost use Rattle.plain.specs.String.{path_lost, minor_steps, requested, dropped, some_asks, rechecked, on_failure, kept, only_mapped};
 ghost use Rattle.plain.specs.String.{major_steps, steps, cycle, string_both_ways};
 
-use crate::jet::{Jet, Place};
+use crate::jet::Jet;
 use crate::map::place_of;
 use crate::said::StringSaid;
 use cycle::map::Masks;
 use cycle::number::Next;
 use cycle::size::{JETS, MANIFOLDS};
+use std::array;
 
 #[derive(Clone, Copy)]
 pub struct PlainString {
@@ -23,17 +24,9 @@ impl PlainString {
     pub(crate) fn fresh(masks: Masks) -> PlainString
         ensures { result ≡ fresh_string masks.words }
     {
-        let nowhere = Jet::fresh(Place::Nowhere);
-        let mut jets = [nowhere; JETS];
-        let mut j: usize = 0;
-        while j < JETS {
-            jets[j] = Jet::fresh(place_of(masks, j));
-            j += 1;
-        }
-        let close = [false; MANIFOLDS];
         PlainString {
-            jets: jets,
-            close: close,
+            jets: array::from_fn(|j| Jet::fresh(place_of(masks, j))),
+            close: [false; MANIFOLDS],
         }
     }
 
@@ -41,30 +34,15 @@ impl PlainString {
     fn path_lost(mut self) -> PlainString
         ensures { result ≡ path_lost self }
     {
-        let mut jets = self.jets;
-        let mut j: usize = 0;
-        while j < JETS {
-            let jet = jets[j];
-            jets[j] = jet.path_lost();
-            j += 1;
-        }
-        self.jets = jets;
+        self.jets = array::from_fn(|j| self.jets[j].path_lost());
         self
     }
 
     // Steps 1 to 4 of every jet, the path bit being clear: path, gap, off failure, manifolds.
-    fn minor_steps(mut self, said: StringSaid, gap: bool, missed: bool) -> PlainString
-        ensures { result ≡ minor_steps said gap missed self }
+    fn minor_steps(mut self, said: StringSaid, next: Next) -> PlainString
+        ensures { result ≡ minor_steps said next.gap next.missed self }
     {
-        let mut jets = self.jets;
-        let mut j: usize = 0;
-        while j < JETS {
-            let jet = jets[j];
-            let x = said.jets[j];
-            jets[j] = jet.minor_steps(x, gap, missed);
-            j += 1;
-        }
-        self.jets = jets;
+        self.jets = array::from_fn(|j| self.jets[j].minor_steps(said.jets[j], next));
         self
     }
 
@@ -72,15 +50,10 @@ impl PlainString {
     fn requested(mut self, said: StringSaid) -> PlainString
         ensures { result ≡ requested said self }
     {
-        let mut jets = self.jets;
-        let mut j: usize = 0;
-        while j < JETS {
-            let jet = jets[j];
-            let x = said.jets[j];
-            jets[j] = jet.requested(x.inhibit, x.reenable);
-            j += 1;
-        }
-        self.jets = jets;
+        self.jets = array::from_fn(|j| self.jets[j].requested(
+            said.jets[j].inhibit,
+            said.jets[j].reenable,
+        ));
         self
     }
 
@@ -88,13 +61,7 @@ impl PlainString {
     fn dropped(mut self, said: StringSaid) -> PlainString
         ensures { result ≡ dropped said self }
     {
-        let mut close = self.close;
-        let mut i: usize = 0;
-        while i < MANIFOLDS {
-            close[i] = close[i] & !said.drops[i];
-            i += 1;
-        }
-        self.close = close;
+        self.close = array::from_fn(|i| self.close[i] & !said.drops[i]);
         self
     }
 
@@ -102,31 +69,15 @@ impl PlainString {
     fn some_asks(self, said: StringSaid, i: usize) -> bool
         ensures { result ≡ some_asks jet_count said self.jets i }
     {
-        let jets = self.jets;
-        let mut found = false;
-        let mut j: usize = 0;
-        while j < JETS {
-            let jet = jets[j];
-            let x = said.jets[j];
-            let place = jet.place;
-            found = found | ((place.number() == i) & jet.asks(x.is_bad()));
-            j += 1;
-        }
-        found
+        (0..JETS).any(|j| self.jets[j].manifold_number() == i
+            && self.jets[j].asks(said.jets[j].is_bad()))
     }
 
     // "Each manifold with a jet in the recheck word that is bad and not re-enabled gets its close bit": it stays until it is dropped.
     fn rechecked(mut self, said: StringSaid) -> PlainString
         ensures { result ≡ rechecked said self }
     {
-        let mut close = self.close;
-        let mut i: usize = 0;
-        while i < MANIFOLDS {
-            let asked = self.some_asks(said, i);
-            close[i] = close[i] | asked;
-            i += 1;
-        }
-        self.close = close;
+        self.close = array::from_fn(|i| self.close[i] | self.some_asks(said, i));
         self
     }
 
@@ -134,15 +85,7 @@ impl PlainString {
     fn on_failure(mut self, said: StringSaid) -> PlainString
         ensures { result ≡ on_failure said self }
     {
-        let mut jets = self.jets;
-        let mut j: usize = 0;
-        while j < JETS {
-            let jet = jets[j];
-            let x = said.jets[j];
-            jets[j] = jet.on_failure(x.is_bad());
-            j += 1;
-        }
-        self.jets = jets;
+        self.jets = array::from_fn(|j| self.jets[j].on_failure(said.jets[j].is_bad()));
         self
     }
 
@@ -150,14 +93,7 @@ impl PlainString {
     fn kept(mut self) -> PlainString
         ensures { result ≡ kept self }
     {
-        let mut jets = self.jets;
-        let mut j: usize = 0;
-        while j < JETS {
-            let jet = jets[j];
-            jets[j] = jet.kept();
-            j += 1;
-        }
-        self.jets = jets;
+        self.jets = array::from_fn(|j| self.jets[j].kept());
         self
     }
 
@@ -165,15 +101,7 @@ impl PlainString {
     fn only_mapped(mut self, before: PlainString) -> PlainString
         ensures { result ≡ only_mapped before self }
     {
-        let mut jets = self.jets;
-        let mut j: usize = 0;
-        while j < JETS {
-            let jet = jets[j];
-            let was = before.jets[j];
-            jets[j] = jet.if_mapped(was);
-            j += 1;
-        }
-        self.jets = jets;
+        self.jets = array::from_fn(|j| self.jets[j].if_mapped(before.jets[j]));
         self
     }
 
@@ -181,11 +109,11 @@ impl PlainString {
     fn major_steps(self, said: StringSaid) -> PlainString
         ensures { result ≡ major_steps said self }
     {
-        let requested = self.requested(said);
-        let dropped = requested.dropped(said);
-        let rechecked = dropped.rechecked(said);
-        let failed = rechecked.on_failure(said);
-        failed.kept()
+        self.requested(said)
+            .dropped(said)
+            .rechecked(said)
+            .on_failure(said)
+            .kept()
     }
 
     // The steps of a taken record, for every jet, mapped or not.
@@ -195,7 +123,7 @@ impl PlainString {
         if said.path {
             return self.path_lost();
         }
-        let after = self.minor_steps(said, next.gap, next.missed);
+        let after = self.minor_steps(said, next);
         if major {
             after.major_steps(said)
         } else {
@@ -207,23 +135,13 @@ impl PlainString {
     pub(crate) fn cycle(self, said: StringSaid, next: Next, major: bool) -> PlainString
         ensures { result ≡ cycle said next major self }
     {
-        let after = self.steps(said, next, major);
-        after.only_mapped(self)
+        self.steps(said, next, major).only_mapped(self)
     }
 
     // 02, order 4: is a jet "named both ways"; "only mapped jets counted"?
     pub(crate) fn both_ways(self, said: StringSaid) -> bool
         ensures { result ≡ string_both_ways jet_count said self.jets }
     {
-        let jets = self.jets;
-        let mut found = false;
-        let mut j: usize = 0;
-        while j < JETS {
-            let jet = jets[j];
-            let x = said.jets[j];
-            found = found | (jet.is_mapped() & x.inhibit & x.reenable);
-            j += 1;
-        }
-        found
+        (0..JETS).any(|j| self.jets[j].is_mapped() && said.jets[j].inhibit && said.jets[j].reenable)
     }
 }

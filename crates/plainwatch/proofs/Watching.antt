@@ -4,7 +4,6 @@ use Rattle.cycle.specs.Size.{string_count}
 use Rattle.cycle.specs.Answers.{writes_report}
 use Rattle.cycle.specs.Map.{FitMap, refused}
 use Rattle.cycle.specs.Hall as hall
-use Rattle.cycle.specs.declared.answer.Answer.{Answer}
 use Rattle.cycle.specs.declared.answer.Answer.TheVariants.{MapRefused}
 use Rattle.cycle.specs.declared.map.Masks.{Masks}
 use Rattle.feed.specs.Size.{map_length, report_length, outbox_needed}
@@ -21,12 +20,12 @@ use Rattle.feed.proofs.Calls.Growing.{hands_more, rest_of}
 use Rattle.plain.specs.Call.{Result, started_over, call}
 use Rattle.plain.specs.CallsAlike.{monitor_after, CallAlike}
 use Rattle.plain.specs.declared.call.PlainMonitor.{PlainMonitor}
-use Rattle.plain.specs.declared.call.PlainOutcome.{PlainOutcome}
 use Rattle.plain.proofs.CallsAlike.{calls-alike, start-alike}
 use Rattle.plainwatch.specs.Watched.{Fresh, Watched, ReportedFor}
+use Rattle.feed.specs.declared.call.Outcome.{Outcome}
 
 -- 128 bytes of a map that is not refused start a fresh monitor
-pub fresh-from : (map : List ℕ) (masks : List Masks) (s : PlainOutcome) → length map ≡ map_length → masks ≡ masks_of_bytes map → FitMap masks
+pub fresh-from : (map : List ℕ) (masks : List Masks) (s : Outcome PlainMonitor) → length map ≡ map_length → masks ≡ masks_of_bytes map → FitMap masks
     → s ≡ started_over masks → (s.answer ≡ MapRefused → ⊥) → Fresh s.monitor map
 unfolding packed.started_over hall.started
 fresh-from map masks s long read fit e kept = by (refused string_count (masks_of_bytes map)) refl
@@ -38,8 +37,8 @@ fresh-from map masks s long read fit e kept = by (refused string_count (masks_of
     over = e ∙ ap started_over read
 
     by : (b : Bool) → refused string_count (masks_of_bytes map) ≡ b → Fresh s.monitor map
-    by true r = absurd (kept (ap (λ (x : PlainOutcome). x.answer) over ∙ start-alike (masks_of_bytes map) fits ∙ rw r refl))
-    by false r = record { whole = long; fits = fits; accepted = r; monitor = ap (λ (x : PlainOutcome). x.monitor) over }
+    by true r = absurd (kept (ap (λ (x : Outcome PlainMonitor). x.answer) over ∙ start-alike (masks_of_bytes map) fits ∙ rw r refl))
+    by false r = record { whole = long; fits = fits; accepted = r; monitor = ap (λ (x : Outcome PlainMonitor). x.monitor) over }
 
 -- at the start nothing has been handed in
 pub begins : (start : PlainMonitor) (map : List ℕ) → Fresh start map → (fed : ℕ) (left : List ℕ) → fed ≡ length left % 2 ^ 64
@@ -145,15 +144,7 @@ module _ (start m : PlainMonitor) (turns fed told : ℕ) (piece out : List ℕ) 
 
 -- ---- over a buffer
 
--- what a call writes fits where there is room for one
-pub written-fits : (a : Answer) (wrote : ℕ) → wrote ≡ cond (writes_report a) report_length 0 → wrote ≤ outbox_needed
-written-fits a wrote e = rw e (by (writes_report a))
-  where
-    by : (b : Bool) → cond b report_length 0 ≤ outbox_needed
-    by true = omega arith
-    by false = omega arith
-
-module _ (start m : PlainMonitor) (turns fed told at n : ℕ) (input out : List ℕ) (r : PlainOutcome) (after : List ℕ) (wrote : ℕ) where
+module _ (start m : PlainMonitor) (turns fed told at n : ℕ) (input out : List ℕ) (r : Outcome PlainMonitor) (after : List ℕ) (wrote : ℕ) where
   abbrev piece : List ℕ
   piece = take (n - at) (drop at input)
 
@@ -193,7 +184,7 @@ module _ (start m : PlainMonitor) (turns fed told at n : ℕ) (input out : List 
         idle : (b : Bool) → writes_report r.answer ≡ b → writes_report (call m piece out).outcome.answer ≡ false
         idle true q =
             let z : report_length ≡ 0 = sym (many ∙ ap (λ (t : Bool). cond t report_length 0) q) ∙ e in absurd (omega arith)
-        idle false q = ap (λ (x : PlainOutcome). writes_report x.answer) (sym is) ∙ q
+        idle false q = ap (λ (x : Outcome PlainMonitor). writes_report x.answer) (sym is) ∙ q
 
 -- the same where a buffer and its places are called otherwise
 pub at_places : (start m : PlainMonitor) (turns told fed fed' at at' n n' : ℕ) (input input' : List ℕ) → input' ≡ input → at' ≡ at

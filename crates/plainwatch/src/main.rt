@@ -14,12 +14,11 @@ use cycle::answer::Answer;
 use feed::masks::masks_of;
 use feed::size::{MAP, REPORT};
 use lines::ending::{Ended, Why, ended_at};
-use lines::line::{EAGAIN, Line, Moved};
+use lines::line::{EAGAIN, Moved, Stopped};
 use lines::read::{read_first, read_ready};
 use lines::write::write_all;
 use plain::call::PlainMonitor;
 use std::io;
-use std::num::wrapping_add_usize;
 use std::time::Clock;
 
 // The sizes of the buffers: for what is read, and for a report.
@@ -57,7 +56,7 @@ fn write_report(
     told: usize,
     piece: &[u8],
     report: &[u8],
-) -> Moved
+) -> Result<Moved, Stopped>
     requires { ReportedFor start m turns fed told piece.now report.now }
     ensures { Written (length report.now) result }
 {
@@ -84,14 +83,13 @@ fn watched(
     let mut m = start;
     let mut at: usize = MAP;
     let mut n = read;
-    let mut turns: u64 = 0;
     let mut fed: usize = read - MAP;
     let mut told: usize = 0;
-    while turns < u64::MAX {
+    let mut made: u64 = 0;
+    for turns in 0..u64::MAX {
         let r = m.call(&input[at..n], out);
-        let answer = r.answer;
-        let w = written(answer);
-        let put = write_report(
+        let w = written(r.answer);
+        let put = match write_report(
             writer,
             clock,
             start,
@@ -101,30 +99,27 @@ fn watched(
             told,
             &input[at..n],
             &out[..w],
-        );
-        let output = put.line;
-        let Line::Open = output else {
-            return ended_at(Why::OutputOver, turns, put);
+        ) {
+            Ok(put) => put,
+            Err(stopped) => return ended_at(Why::OutputOver, turns, Err(stopped)),
         };
-        told = wrapping_add_usize(told, put.bytes);
-        let next = r.monitor;
-        m = next;
+        told = told.wrapping_add(put.bytes);
+        m = r.monitor;
         at += r.used;
         if w == 0 {
-            let got = read_ready(reader, clock, input);
-            let line = got.line;
-            let Line::Open = line else {
-                return ended_at(Why::InputOver, turns, got);
+            let got = match read_ready(reader, clock, input) {
+                Ok(got) => got,
+                Err(stopped) => return ended_at(Why::InputOver, turns, Err(stopped)),
             };
             n = got.bytes;
             at = 0;
-            fed = wrapping_add_usize(fed, n);
+            fed = fed.wrapping_add(n);
         }
-        turns += 1;
+        made = turns + 1;
     }
     Ended {
         why: Why::OutOfTurns,
-        turns: turns,
+        turns: made,
         tries: 0,
         answer: 1,
         failure: EAGAIN,
@@ -136,22 +131,18 @@ fn main(rt: HostRuntime) {
     let mut writer = rt.stdout();
     let mut input = [0u8; INPUT];
     let mut out = [0u8; OUTBOX];
-    let got = read_first(&mut reader, &rt, &mut input, MAP);
-    let line = got.line;
-    let Line::Open = line else {
+    let Ok(got) = read_first(&mut reader, &rt, &mut input, MAP) else {
         return;
     };
     let s = PlainMonitor::start(masks_of(&input[..MAP]));
-    let answer = s.answer;
-    if let Answer::MapRefused = answer {
+    if s.answer == Answer::MapRefused {
         return;
     }
-    let start = s.monitor;
     watched(
         &mut reader,
         &mut writer,
         &rt,
-        start,
+        s.monitor,
         &mut input,
         got.bytes,
         &mut out,

@@ -5,6 +5,7 @@ use mathlib.Core.List.{List, [], ◌∷◌, ◌++◌}
 use Prim.Native.Nat.{ℕ, zero, suc, ◌<◌}
 use native.Mathlib.Omega.{arith}
 use lib.ListN.{get_or, replicate, get_or-replicate}
+use Rattle.std.proofs.Common.{Ok, Err}
 use Rattle.bits.specs.Bit.{every}
 use Rattle.cycle.specs.Records.{Record, minor, major}
 use Rattle.cycle.specs.Banks.{no_quantities}
@@ -12,12 +13,12 @@ use Rattle.cycle.specs.Hall.{no_sample, no_temperatures, no_requests}
 use Rattle.cycle.specs.declared.values.Quantities.{Quantities}
 use Rattle.feed.specs.Bytes.{parts}
 use Rattle.feed.specs.Format.{total, sum_of}
+use Rattle.writer.specs.Answers.{Writing}
 use Rattle.writer.specs.RecordBytes.{head_bytes, sample_bytes, samples_bytes, common_bytes, before_sum, summed, bytes_of}
 use Rattle.writer.specs.Write.{reserved_zero, two_right, quantities_right, checked, wrote, write}
 use Rattle.writer.specs.Fit.{FitSample, FitMinor, FitTemperatures, FitRequests, FitQuantities, FitRecord}
 use Rattle.writer.specs.Sent.{AllWritten, none, more}
-use Rattle.writer.specs.declared.answer.Writing.{Writing}
-use Rattle.writer.specs.declared.answer.Writing.TheVariants.{Written, ReservedBit, QuantityAbove, OutboxShort}
+use Rattle.writer.specs.declared.answer.Refused.TheVariants.{ReservedBit, QuantityAbove, OutboxShort}
 use Rattle.promises.specs.NightRecords.{quiet_sample, quiet_temperatures, minor_with, major_with, keeping, dropping_with}
 use Rattle.promises.specs.Nights.{four_times}
 
@@ -27,7 +28,7 @@ abbrev first_values : Record
 first_values = minor (minor_with 1 quiet_sample)
 
 pub first-written : write first_values (replicate 61 7)
-    ≡ wrote Written
+    ≡ wrote (Ok tt)
     ((0x52 ∷ 0x4D ∷ 0x00 ∷ 0x01 ∷ 0x00 ∷ four_times (replicate 12 0x00 ++ (0xFF ∷ [])) ++ (0x04 ∷ 0x9C ∷ [])) ++ (7 ∷ 7 ∷ []))
 unfolding write checked reserved_zero every bytes_of summed before_sum common_bytes head_bytes samples_bytes sample_bytes parts sum_of total
 first-written = refl
@@ -43,17 +44,17 @@ full_values = major (major_with 25 quiet_sample quiet_temperatures full)
 abbrev answer-of : Record → ℕ → Writing
 answer-of r room = (write r (replicate room 0)).answer
 
-pub full-written : answer-of full_values 619 ≡ Written
+pub full-written : answer-of full_values 619 ≡ Ok tt
 unfolding write checked reserved_zero every quantities_right two_right
 full-written = refl
 
 -- ---- each refusal, and their order
 
-pub short-refused : answer-of full_values 618 ≡ OutboxShort
+pub short-refused : answer-of full_values 618 ≡ Err OutboxShort
 unfolding write checked reserved_zero every quantities_right two_right
 short-refused = refl
 
-pub quantity-refused : answer-of (major (major_with 25 quiet_sample quiet_temperatures (keeping 1000 1001 ∷ []))) 618 ≡ QuantityAbove
+pub quantity-refused : answer-of (major (major_with 25 quiet_sample quiet_temperatures (keeping 1000 1001 ∷ []))) 618 ≡ Err QuantityAbove
 unfolding write checked reserved_zero every quantities_right two_right
 quantity-refused = refl
 
@@ -66,12 +67,12 @@ reserved_values = major (record {
   quantities = keeping 1000 1001 ∷ [];
 })
 
-pub reserved-refused : answer-of reserved_values 618 ≡ ReservedBit
+pub reserved-refused : answer-of reserved_values 618 ≡ Err ReservedBit
 unfolding write checked reserved_zero every quantities_right two_right
 reserved-refused = refl
 
 -- 02, order 7: "the reserved-bit rules for valve and drop go": valve bytes FF, as a quiet sample has them, and a drop byte FF are written
-pub drops-written : answer-of (major (dropping_with 25 0xFF full)) 619 ≡ Written
+pub drops-written : answer-of (major (dropping_with 25 0xFF full)) 619 ≡ Ok tt
 unfolding write checked reserved_zero every quantities_right two_right
 drops-written = refl
 

@@ -10,8 +10,8 @@ use Rattle.cycle.specs.Hall.{started, verdict_on, stepped_by, stepped}
 use Rattle.cycle.specs.declared.answer.Answer.TheVariants.{Taken}
 use Rattle.cycle.specs.declared.hall.Hall.{Hall}
 use Rattle.cycle.specs.declared.map.Masks.{Masks}
-use Rattle.cycle.specs.declared.number.Verdict.{Verdict}
-use Rattle.cycle.specs.declared.number.Verdict.TheVariants.{Takes, Refuses}
+use Rattle.cycle.specs.Numbers.{Verdict}
+use Rattle.std.specs.Prelude.{Ok, Err}
 use Rattle.feed.specs.Report.{report_of}
 use Rattle.promises.specs.NightHolds.{Exchange, stepping, Holds, outcomes, unless_taken, before_refusals, after_refusals}
 
@@ -20,8 +20,8 @@ unfolding stepped
 untaken-same r h e = by (verdict_on h.n h.masks r) e
   where
     by : (v : Verdict) → is_taken (stepped_by v r h).answer ≡ false → (stepped_by v r h).hall ≡ h
-    by (Takes next) q = not-both true refl q
-    by (Refuses a) q = refl
+    by (Ok next) q = not-both true refl q
+    by (Err a) q = refl
 
 refusals-same : (l : List Record) (h : Hall) → after_refusals (outcomes h l) ≡ before_refusals h l
 unfolding outcomes after_refusals before_refusals

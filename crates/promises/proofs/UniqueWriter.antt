@@ -1,8 +1,8 @@
 -- 01, "What each claim has to tie down": one outcome for the writer. Assumes nothing.
 use mathlib.Core.Path.{refl, sym, ap, ◌∙◌}
 use Rattle.promises.specs.Outcomes.{OneOutcome}
-use Rattle.writer.specs.contracts.answer.Writing.number as writing-number
-use Rattle.writer.proofs.answer.Writing.number.Reads as writing-number-reads
+use Rattle.writer.specs.contracts.answer.number as writing-number
+use Rattle.writer.proofs.answer.number.Reads as writing-number-reads
 use Rattle.writer.specs.contracts.write.write_minor as write-minor
 use Rattle.writer.proofs.write.write_minor.Reads as write-minor-reads
 use Rattle.writer.specs.contracts.write.write_major as write-major

@@ -6,6 +6,7 @@ use mathlib.Core.List.{List, [], ◌∷◌, ◌++◌}
 use mathlib.Core.Logic.{◌↔◌}
 use Prim.Native.Nat.{ℕ, ◌<◌, ◌≤◌}
 use lib.ListN.{length, get_or, drop}
+use Rattle.std.proofs.Common.{Ok}
 use Rattle.cycle.specs.Records.{Record}
 use Rattle.cycle.specs.Hall.{stepped}
 use Rattle.cycle.specs.declared.map.Masks.{Masks}
@@ -20,12 +21,10 @@ use Rattle.feed.specs.declared.call.Monitor.{Monitor}
 use Rattle.writer.specs.RecordBytes.{bytes_of}
 use Rattle.writer.specs.Write.{Wrote, wrote, write}
 use Rattle.writer.specs.Fit.{FitRecord}
-use Rattle.writer.specs.Answers.{number_of}
+use Rattle.writer.specs.Answers.{Writing, number_of}
 use Rattle.writer.specs.Refused.{AnsweredWhen, Numbered, needed}
 use Rattle.writer.specs.Does.{Does}
 use Rattle.writer.specs.Sent.{monitor_over, reports_over, AllWritten, sent_bytes, hall_fed, reports_fed}
-use Rattle.writer.specs.declared.answer.Writing.{Writing}
-use Rattle.writer.specs.declared.answer.Writing.TheVariants.{Written}
 use Rattle.writer.proofs.Doing as doing
 use Rattle.writer.proofs.Refusals as refusing
 use Rattle.writer.proofs.Sending as sending
@@ -48,10 +47,10 @@ only-writer = doing.only-writer
 pub writer-answers : (r : Record) (out : List ℕ) (a : Writing) → ((write r out).answer ≡ a) ↔ AnsweredWhen a r (length out)
 writer-answers = refusing.writes-exactly
 
-pub refused-unchanged : (r : Record) (out : List ℕ) → ((write r out).answer ≡ Written → ⊥) → (write r out).outbox ≡ out
+pub refused-unchanged : (r : Record) (out : List ℕ) → ((write r out).answer ≡ Ok tt → ⊥) → (write r out).outbox ≡ out
 refused-unchanged = refusing.refused-as-it-was
 
-pub written-bytes : (r : Record) (out : List ℕ) → (write r out).answer ≡ Written
+pub written-bytes : (r : Record) (out : List ℕ) → (write r out).answer ≡ Ok tt
     → ((write r out).outbox ≡ bytes_of r ++ drop (needed r) out) × (length (bytes_of r) ≡ needed r)
 written-bytes = refusing.written-bytes
 
@@ -61,7 +60,7 @@ writer-numbers = refusing.writer-numbers
 
 -- "An empty reader given what was written gives the values back": a record that was written, and any monitor that holds nothing, whatever
 -- its hall
-module _ (r : Record) (fits : FitRecord r) (box : List ℕ) (written : (write r box).answer ≡ Written) (m : Monitor) (empty : holds m ≡ [])
+module _ (r : Record) (fits : FitRecord r) (box : List ℕ) (written : (write r box).answer ≡ Ok tt) (m : Monitor) (empty : holds m ≡ [])
     (out : List ℕ) (room : 40 ≤ length out) where
   -- in one piece, with anything behind: exactly that record is settled, its values are those given, exactly its bytes are used, nothing is
   -- held, and the hall steps by exactly those values
@@ -78,7 +77,7 @@ module _ (r : Record) (fits : FitRecord r) (box : List ℕ) (written : (write r 
   read-back-in-pieces pieces = sending.in_pieces r box written fits out room m pieces empty
 
 -- piece by piece, whatever the monitor holds of the record: the rest settles it, with anything behind, and less than that waits
-module _ (r : Record) (box : List ℕ) (written : (write r box).answer ≡ Written) (m : Monitor) (out : List ℕ) (room : 40 ≤ length out) where
+module _ (r : Record) (box : List ℕ) (written : (write r box).answer ≡ Ok tt) (m : Monitor) (out : List ℕ) (room : 40 ≤ length out) where
   pub last-settles : FitRecord r → (last behind : List ℕ) → holds m ++ last ≡ bytes_of r
       → call m (last ++ behind) out ≡ settled_to (stepped r m.hall) (length last) out
   last-settles fits last behind here = sending.last-settles r box written fits m last behind out here room
@@ -96,13 +95,13 @@ sent-feed = feeding.sent-feed
 
 -- "writing what a settled record held gives its bytes back": for every whole record of bytes, and so for whatever any call settles
 pub whole_back : (l : List ℕ) → ((i : ℕ) → get_or l i 0 < 256) → WholeRecord l → (out : List ℕ) → length l ≤ length out
-    → write (values_of l) out ≡ wrote Written (l ++ drop (length l) out)
+    → write (values_of l) out ≡ wrote (Ok tt) (l ++ drop (length l) out)
 whole_back = back.whole_back
 
 pub settled_back : (m : Monitor) (piece : List ℕ) → ((i : ℕ) → get_or (holds m ++ piece) i 0 < 256)
     → 0 < length (record_in (holds m ++ piece)) → (out : List ℕ) → length (record_in (holds m ++ piece)) ≤ length out
     → write (values_in (holds m ++ piece)) out
-    ≡ wrote Written (record_in (holds m ++ piece) ++ drop (length (record_in (holds m ++ piece))) out)
+    ≡ wrote (Ok tt) (record_in (holds m ++ piece) ++ drop (length (record_in (holds m ++ piece))) out)
 settled_back m piece = back.settled_back (holds m ++ piece)
 
 -- bytes carry values as their arrays and types hold them

@@ -33,7 +33,7 @@ pub data Night : Type 0 where
   feeding : List Masks → List Handed → Night
 
 -- what the hall gives back to records, one after the other
-unfoldable pub outcomes : Hall → List Record → List Stepped
+unfoldable pub outcomes : Hall → List Record → List (Stepped Hall)
 outcomes h [] = []
 outcomes h (r ∷ l) = let x = stepped r h in x ∷ outcomes x.hall l
 
@@ -47,7 +47,7 @@ unfoldable pub before_refusals : Hall → List Record → List Hall
 before_refusals h [] = []
 before_refusals h (r ∷ l) = let x = stepped r h in unless_taken (is_taken x.answer) h (before_refusals x.hall l)
 
-unfoldable pub after_refusals : List Stepped → List Hall
+unfoldable pub after_refusals : List (Stepped Hall) → List Hall
 after_refusals [] = []
 after_refusals (x ∷ l) = unless_taken (is_taken x.answer) x.hall (after_refusals l)
 
@@ -57,7 +57,7 @@ pub record Seen : Type 0 where
   pub reports : List (List ℕ)
   pub refused : List Hall
 
-abbrev pub seen_of : List Masks → List Stepped → Seen
+abbrev pub seen_of : List Masks → List (Stepped Hall) → Seen
 seen_of masks l = record {
   start = (started masks).answer;
   reports = map (λ x. report_of x.answer x.hall) l;

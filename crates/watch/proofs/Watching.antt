@@ -19,7 +19,7 @@ use Rattle.feed.proofs.Calls.Growing.{hands_more, rest_of}
 use Rattle.watch.specs.Watched.{Fresh, Watched, ReportedFor}
 
 -- 128 bytes of a map that is not refused start a fresh monitor
-pub fresh-from : (map : List ℕ) (s : Outcome) → length map ≡ map_length → s ≡ started_from map → (s.answer ≡ MapRefused → ⊥)
+pub fresh-from : (map : List ℕ) (s : Outcome Monitor) → length map ≡ map_length → s ≡ started_from map → (s.answer ≡ MapRefused → ⊥)
     → Fresh s.monitor map
 unfolding started_over started
 fresh-from map s long e kept = by (refused string_count (masks_of_bytes map)) refl
@@ -28,8 +28,8 @@ fresh-from map s long e kept = by (refused string_count (masks_of_bytes map)) re
     over = e ∙ starts_from map long
 
     by : (b : Bool) → refused string_count (masks_of_bytes map) ≡ b → Fresh s.monitor map
-    by true r = absurd (kept (ap (λ (x : Outcome). x.answer) over ∙ rw r refl))
-    by false r = record { whole = long; accepted = r; monitor = ap (λ (x : Outcome). x.monitor) over }
+    by true r = absurd (kept (ap (λ (x : Outcome Monitor). x.answer) over ∙ rw r refl))
+    by false r = record { whole = long; accepted = r; monitor = ap (λ (x : Outcome Monitor). x.monitor) over }
 
 -- at the start nothing has been handed in
 pub begins : (start : Monitor) (map : List ℕ) → Fresh start map → (fed : ℕ) (left : List ℕ) → fed ≡ length left % 2 ^ 64

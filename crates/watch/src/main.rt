@@ -13,11 +13,10 @@ use cycle::answer::Answer;
 use feed::call::Monitor;
 use feed::size::MAP;
 use lines::ending::{Ended, Why, ended_at};
-use lines::line::{EAGAIN, Line, Moved};
+use lines::line::{EAGAIN, Moved, Stopped};
 use lines::read::{read_first, read_ready};
 use lines::write::write_all;
 use std::io;
-use std::num::wrapping_add_usize;
 use std::time::Clock;
 
 // The size of each buffer: for what is read, and for the reports of a turn.
@@ -36,7 +35,7 @@ fn write_reports(
     told: usize,
     piece: &[u8],
     reports: &[u8],
-) -> Moved
+) -> Result<Moved, Stopped>
     requires { ReportedFor start m turns fed told piece.now reports.now }
     ensures { Written (length reports.now) result }
 {
@@ -63,13 +62,12 @@ fn watched(
     let mut m = start;
     let mut at: usize = MAP;
     let mut n = read;
-    let mut turns: u64 = 0;
     let mut fed: usize = read - MAP;
     let mut told: usize = 0;
-    while turns < u64::MAX {
+    let mut made: u64 = 0;
+    for turns in 0..u64::MAX {
         let r = m.run(&input[at..n], out);
-        let w = r.written;
-        let put = write_reports(
+        let put = match write_reports(
             writer,
             clock,
             start,
@@ -78,31 +76,28 @@ fn watched(
             fed,
             told,
             &input[at..n],
-            &out[..w],
-        );
-        let output = put.line;
-        let Line::Open = output else {
-            return ended_at(Why::OutputOver, turns, put);
+            &out[..r.written],
+        ) {
+            Ok(put) => put,
+            Err(stopped) => return ended_at(Why::OutputOver, turns, Err(stopped)),
         };
-        told = wrapping_add_usize(told, put.bytes);
-        let next = r.monitor;
-        m = next;
+        told = told.wrapping_add(put.bytes);
+        m = r.monitor;
         at += r.used;
         if !r.more {
-            let got = read_ready(reader, clock, input);
-            let line = got.line;
-            let Line::Open = line else {
-                return ended_at(Why::InputOver, turns, got);
+            let got = match read_ready(reader, clock, input) {
+                Ok(got) => got,
+                Err(stopped) => return ended_at(Why::InputOver, turns, Err(stopped)),
             };
             n = got.bytes;
             at = 0;
-            fed = wrapping_add_usize(fed, n);
+            fed = fed.wrapping_add(n);
         }
-        turns += 1;
+        made = turns + 1;
     }
     Ended {
         why: Why::OutOfTurns,
-        turns: turns,
+        turns: made,
         tries: 0,
         answer: 1,
         failure: EAGAIN,
@@ -114,22 +109,18 @@ fn main(rt: HostRuntime) {
     let mut writer = rt.stdout();
     let mut input = [0u8; BUFFER];
     let mut out = [0u8; BUFFER];
-    let got = read_first(&mut reader, &rt, &mut input, MAP);
-    let line = got.line;
-    let Line::Open = line else {
+    let Ok(got) = read_first(&mut reader, &rt, &mut input, MAP) else {
         return;
     };
     let s = Monitor::start_from(&input[..MAP]);
-    let answer = s.answer;
-    if let Answer::MapRefused = answer {
+    if s.answer == Answer::MapRefused {
         return;
     }
-    let start = s.monitor;
     watched(
         &mut reader,
         &mut writer,
         &rt,
-        start,
+        s.monitor,
         &mut input,
         got.bytes,
         &mut out,

@@ -4,13 +4,13 @@ use mathlib.Core.List.{List, ◌++◌}
 use mathlib.Core.Logic.{◌⊎◌, inl, inr}
 use Prim.Native.Nat.{ℕ}
 use lib.ListN.{drop}
+use Rattle.std.proofs.Common.{Ok}
 use Rattle.cycle.specs.Records.{Record}
 use Rattle.writer.specs.RecordBytes.{bytes_of}
 use Rattle.writer.specs.Write.{Wrote, write}
 use Rattle.writer.specs.Fit.{FitRecord}
 use Rattle.writer.specs.Refused.{needed}
 use Rattle.writer.specs.Does.{Does}
-use Rattle.writer.specs.declared.answer.Writing.TheVariants.{Written}
 use Rattle.writer.proofs.Answering.{is-written-or}
 use Rattle.writer.proofs.Places.{bytes-carry}
 use Rattle.writer.proofs.InBytes.{bytes-in-bytes}
@@ -41,7 +41,7 @@ module _ (r : Record) (fits : FitRecord r) (out : List ℕ) where
       let box : x.outbox ≡ (write r out).outbox = by same (is-written-or x.answer) in
       λ i. record { answer = same i; outbox = box i }
     where
-      by : x.answer ≡ (write r out).answer → (x.answer ≡ Written) ⊎ (x.answer ≡ Written → ⊥) → x.outbox ≡ (write r out).outbox
+      by : x.answer ≡ (write r out).answer → (x.answer ≡ Ok tt) ⊎ (x.answer ≡ Ok tt → ⊥) → x.outbox ≡ (write r out).outbox
       by same (inl t) =
           let w = d.writes t in
           w.put

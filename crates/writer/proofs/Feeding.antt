@@ -32,11 +32,11 @@ sent-at-once h (r ∷ rs) (more box fits written w) =
     let next : AtOnce (stepped r h).hall (sent_bytes rs) (reports_fed rs (stepped r h).hall) (hall_fed rs (stepped r h).hall) [] =
     sent-at-once (stepped r h).hall rs w in
     steps x.there
-    (subst (λ (y : Stepped). AtOnce y.hall (behind_in (bytes_of r ++ sent_bytes rs)) (reports_fed rs (stepped r h).hall)
+    (subst (λ (y : Stepped Hall). AtOnce y.hall (behind_in (bytes_of r ++ sent_bytes rs)) (reports_fed rs (stepped r h).hall)
     (hall_fed rs (stepped r h).hall) []) (sym step)
     (subst (λ (l : List ℕ). AtOnce (stepped r h).hall l (reports_fed rs (stepped r h).hall) (hall_fed rs (stepped r h).hall) [])
     (sym x.behind) next))
-    (ap (λ (y : Stepped). report_taken y ++ reports_fed rs (stepped r h).hall) (sym step))
+    (ap (λ (y : Stepped Hall). report_taken y ++ reports_fed rs (stepped r h).hall) (sym step))
 
 module _ (masks : List Masks) (rs : List Record) (all : AllWritten rs) (cs : List Made) (done : Finished masks (sent_bytes rs) cs) where
   abbrev fresh : Hall

@@ -1,10 +1,10 @@
 -- Parts put one behind the other into a slice: d at first, p over its first a bytes, then q over the next k. Assumes nothing.
 use mathlib.Core.Path.{◌≡◌, refl, ap, ap₂, ◌∙◌}
 use mathlib.Core.List.{List, [], ◌∷◌, ◌++◌, append_assoc, append-nil}
-use Prim.Native.Nat.{ℕ, ◌+◌, ◌*◌}
+use Prim.Native.Nat.{ℕ, ◌+◌, ◌-◌, ◌*◌}
 use native.Mathlib.Omega.{arith}
 use borrow.Rule.Slice.PartMut.{put_mid}
-use lib.ListN.{length, set, take, drop, drop_of_length-le, length-append}
+use lib.ListN.{length, set, take, drop, drop_of_length-le, length-append, length-drop}
 use lib.Seq.{sets, sets-eq, take_at}
 use Rattle.cycle.specs.Size.{string_count, module_count}
 use Rattle.feed.specs.Size.{word_length, wire_at, wire_length, path_at, samples_from, valves_in, sample_length, temperatures_from}
@@ -20,6 +20,12 @@ lay-last d p q x a k e l h =
     lay d p q x a k e l
     ∙ ap (λ (t : List ℕ). (p ++ q) ++ t) (drop_of_length-le d {i = a + k} (omega arith))
     ∙ append-nil (p ++ q)
+
+-- up to the end, wherever it is
+pub lay-rest : (d p q x : List ℕ) (a k : ℕ) → x ≡ p ++ drop a d → length p ≡ a → length d ≡ a + k → put_mid a (length x - a) x q ≡ p ++ q
+lay-rest d p q x a k e l h =
+    let n : length x - a ≡ k = omega (arith, ap length e, length-append p (drop a d), length-drop a d) in
+    ap (λ (m : ℕ). put_mid a m x q) n ∙ lay-last d p q x a k e l h
 
 both_long : (p q : List ℕ) (a b : ℕ) → length p ≡ a → length q ≡ b → length (p ++ q) ≡ a + b
 both_long p q a b e f = length-append p q ∙ ap₂ (λ (m n : ℕ). m + n) e f

@@ -8,6 +8,7 @@ use native.Mathlib.Omega.{arith}
 use borrow.Author.Tests.{ltb-true, ltb-false, leb-true, leb-false}
 use lib.Dec.{leb}
 use lib.ListN.{length, get_or, drop}
+use Rattle.std.proofs.Common.{Ok, Err}
 use Rattle.bits.proofs.Yes.{and_left, and_right, and_cases}
 use Rattle.bits.proofs.Every.{every-at, every-fails}
 use Rattle.cycle.specs.Size.{module_count}
@@ -19,11 +20,10 @@ use Rattle.feed.proofs.Records.Lengths.{by-test, below_or}
 use Rattle.writer.specs.RecordBytes.{bytes_of, length_by}
 use Rattle.writer.specs.Write.{reserved_zero, no_reserved, two_right, module_right, quantities_right}
 use Rattle.writer.specs.Write.{all_right, Wrote, write}
-use Rattle.writer.specs.Answers.{number_of}
+use Rattle.writer.specs.Answers.{Writing, number_of}
 use Rattle.writer.specs.Refused.{HasReserved, HasAbove, in_fuel, in_oxidizer, AboveIn, needed}
 use Rattle.writer.specs.Refused.{AnsweredWhen, Numbered}
-use Rattle.writer.specs.declared.answer.Writing.{Writing}
-use Rattle.writer.specs.declared.answer.Writing.TheVariants.{Written, ReservedBit, QuantityAbove, OutboxShort}
+use Rattle.writer.specs.declared.answer.Refused.TheVariants.{ReservedBit, QuantityAbove, OutboxShort}
 use Rattle.writer.proofs.Lengths.{bytes-length}
 use Rattle.writer.proofs.Answering.{reserved-refused, quantity-refused, short-refused, is-written}
 
@@ -73,7 +73,7 @@ none-above-in (minor r) e x = x
 none-above-in (major r) e x = none_above r.quantities e x
 
 some-above-in : (r : Record) → all_right r ≡ false → AboveIn r
-some-above-in (minor r) e = let z : ◌≡◌ {A = ℕ} 0 1 = cc in absurd (omega arith)
+some-above-in (minor r) e = cc
 some-above-in (major r) e = some-above r.quantities e
 
 -- the lengths that documents 01 and 02 write
@@ -85,9 +85,9 @@ needs-length (major r) = refl
 
 -- what the writer gives back under its answer's condition: the record's bytes and behind them what was there, or the outbox handed in
 pub data Gives (r : Record) (out : List ℕ) (x : Wrote) : Type 0 where
-  writes : AnsweredWhen Written r (length out) → no_reserved r ≡ true → all_right r ≡ true → x.answer ≡ Written
+  writes : AnsweredWhen (Ok tt) r (length out) → no_reserved r ≡ true → all_right r ≡ true → x.answer ≡ Ok tt
       → x.outbox ≡ bytes_of r ++ drop (length_by r) out → Gives r out x
-  refuses : (a : Writing) → AnsweredWhen a r (length out) → (a ≡ Written → ⊥) → x.answer ≡ a → x.outbox ≡ out → Gives r out x
+  refuses : (a : Writing) → AnsweredWhen a r (length out) → (a ≡ Ok tt → ⊥) → x.answer ≡ a → x.outbox ≡ out → Gives r out x
 
 module _ (r : Record) (out : List ℕ) where
   pub gives : Gives r out (write r out)
@@ -97,11 +97,11 @@ module _ (r : Record) (out : List ℕ) where
       by-test (all_right r) (λ right. room zero right (below_or (length out) (length_by r)))
       (λ e.
       let q = quantity-refused r out zero e in
-      refuses QuantityAbove (none-reserved r zero, some-above-in r e) (λ d. let z : ◌≡◌ {A = ℕ} 0 1 = cc in omega arith)
+      refuses (Err QuantityAbove) (none-reserved r zero, some-above-in r e) (λ d. cc)
       (sym (ap (λ (x : Wrote). x.answer) q)) (sym (ap (λ (x : Wrote). x.outbox) q))))
       (λ e.
       let q = reserved-refused r out e in
-      refuses ReservedBit (some-reserved r e) (λ d. let z : ◌≡◌ {A = ℕ} 0 1 = cc in omega arith)
+      refuses (Err ReservedBit) (some-reserved r e) (λ d. cc)
       (sym (ap (λ (x : Wrote). x.answer) q)) (sym (ap (λ (x : Wrote). x.outbox) q)))
     where
       room : no_reserved r ≡ true → all_right r ≡ true → (length out < length_by r) ⊎ (length_by r ≤ length out)
@@ -109,8 +109,8 @@ module _ (r : Record) (out : List ℕ) where
       room zero right (inl l) =
           let q = short-refused r out zero right l in
           let n = needs-length r in
-          refuses OutboxShort (none-reserved r zero, none-above-in r right, omega arith)
-          (λ d. let z : ◌≡◌ {A = ℕ} 0 1 = cc in omega arith)
+          refuses (Err OutboxShort) (none-reserved r zero, none-above-in r right, omega arith)
+          (λ d. cc)
           (sym (ap (λ (x : Wrote). x.answer) q)) (sym (ap (λ (x : Wrote). x.outbox) q))
       room zero right (inr l) =
           let q = is-written r out zero right (bytes_of r) l refl in
@@ -120,41 +120,41 @@ module _ (r : Record) (out : List ℕ) where
 
 -- no two answers have one number
 number-tells : (a b : Writing) → number_of a ≡ number_of b → a ≡ b
-number-tells Written Written e = refl
-number-tells Written ReservedBit e = absurd (omega arith)
-number-tells Written QuantityAbove e = absurd (omega arith)
-number-tells Written OutboxShort e = absurd (omega arith)
-number-tells ReservedBit Written e = absurd (omega arith)
-number-tells ReservedBit ReservedBit e = refl
-number-tells ReservedBit QuantityAbove e = absurd (omega arith)
-number-tells ReservedBit OutboxShort e = absurd (omega arith)
-number-tells QuantityAbove Written e = absurd (omega arith)
-number-tells QuantityAbove ReservedBit e = absurd (omega arith)
-number-tells QuantityAbove QuantityAbove e = refl
-number-tells QuantityAbove OutboxShort e = absurd (omega arith)
-number-tells OutboxShort Written e = absurd (omega arith)
-number-tells OutboxShort ReservedBit e = absurd (omega arith)
-number-tells OutboxShort QuantityAbove e = absurd (omega arith)
-number-tells OutboxShort OutboxShort e = refl
+number-tells (Ok done) (Ok also) e = refl
+number-tells (Ok done) (Err ReservedBit) e = absurd (omega arith)
+number-tells (Ok done) (Err QuantityAbove) e = absurd (omega arith)
+number-tells (Ok done) (Err OutboxShort) e = absurd (omega arith)
+number-tells (Err ReservedBit) (Ok done) e = absurd (omega arith)
+number-tells (Err ReservedBit) (Err ReservedBit) e = refl
+number-tells (Err ReservedBit) (Err QuantityAbove) e = absurd (omega arith)
+number-tells (Err ReservedBit) (Err OutboxShort) e = absurd (omega arith)
+number-tells (Err QuantityAbove) (Ok done) e = absurd (omega arith)
+number-tells (Err QuantityAbove) (Err ReservedBit) e = absurd (omega arith)
+number-tells (Err QuantityAbove) (Err QuantityAbove) e = refl
+number-tells (Err QuantityAbove) (Err OutboxShort) e = absurd (omega arith)
+number-tells (Err OutboxShort) (Ok done) e = absurd (omega arith)
+number-tells (Err OutboxShort) (Err ReservedBit) e = absurd (omega arith)
+number-tells (Err OutboxShort) (Err QuantityAbove) e = absurd (omega arith)
+number-tells (Err OutboxShort) (Err OutboxShort) e = refl
 
 -- no two conditions hold of the same values and outbox
 one-condition : (r : Record) (n : ℕ) (a b : Writing) → AnsweredWhen a r n → AnsweredWhen b r n → a ≡ b
-one-condition r n Written Written x y = refl
-one-condition r n Written ReservedBit x y = absurd (x.0 y)
-one-condition r n Written QuantityAbove x y = absurd (x.1 y.1)
-one-condition r n Written OutboxShort x y = absurd (omega (arith, x.2, y.2))
-one-condition r n ReservedBit Written x y = absurd (y.0 x)
-one-condition r n ReservedBit ReservedBit x y = refl
-one-condition r n ReservedBit QuantityAbove x y = absurd (y.0 x)
-one-condition r n ReservedBit OutboxShort x y = absurd (y.0 x)
-one-condition r n QuantityAbove Written x y = absurd (y.1 x.1)
-one-condition r n QuantityAbove ReservedBit x y = absurd (x.0 y)
-one-condition r n QuantityAbove QuantityAbove x y = refl
-one-condition r n QuantityAbove OutboxShort x y = absurd (y.1 x.1)
-one-condition r n OutboxShort Written x y = absurd (omega (arith, x.2, y.2))
-one-condition r n OutboxShort ReservedBit x y = absurd (x.0 y)
-one-condition r n OutboxShort QuantityAbove x y = absurd (x.1 y.1)
-one-condition r n OutboxShort OutboxShort x y = refl
+one-condition r n (Ok done) (Ok also) x y = refl
+one-condition r n (Ok done) (Err ReservedBit) x y = absurd (x.0 y)
+one-condition r n (Ok done) (Err QuantityAbove) x y = absurd (x.1 y.1)
+one-condition r n (Ok done) (Err OutboxShort) x y = absurd (omega (arith, x.2, y.2))
+one-condition r n (Err ReservedBit) (Ok done) x y = absurd (y.0 x)
+one-condition r n (Err ReservedBit) (Err ReservedBit) x y = refl
+one-condition r n (Err ReservedBit) (Err QuantityAbove) x y = absurd (y.0 x)
+one-condition r n (Err ReservedBit) (Err OutboxShort) x y = absurd (y.0 x)
+one-condition r n (Err QuantityAbove) (Ok done) x y = absurd (y.1 x.1)
+one-condition r n (Err QuantityAbove) (Err ReservedBit) x y = absurd (x.0 y)
+one-condition r n (Err QuantityAbove) (Err QuantityAbove) x y = refl
+one-condition r n (Err QuantityAbove) (Err OutboxShort) x y = absurd (y.1 x.1)
+one-condition r n (Err OutboxShort) (Ok done) x y = absurd (omega (arith, x.2, y.2))
+one-condition r n (Err OutboxShort) (Err ReservedBit) x y = absurd (x.0 y)
+one-condition r n (Err OutboxShort) (Err QuantityAbove) x y = absurd (x.1 y.1)
+one-condition r n (Err OutboxShort) (Err OutboxShort) x y = refl
 
 module _ (r : Record) (out : List ℕ) where
   held : (x : Wrote) → Gives r out x → AnsweredWhen x.answer r (length out)
@@ -167,10 +167,10 @@ module _ (r : Record) (out : List ℕ) where
     λ c. one-condition r (length out) (write r out).answer a (held (write r out) (gives r out)) c,
   )
 
-  pub refused-as-it-was : ((write r out).answer ≡ Written → ⊥) → (write r out).outbox ≡ out
+  pub refused-as-it-was : ((write r out).answer ≡ Ok tt → ⊥) → (write r out).outbox ≡ out
   refused-as-it-was f = by (write r out) f (gives r out)
     where
-      by : (x : Wrote) → (x.answer ≡ Written → ⊥) → Gives r out x → x.outbox ≡ out
+      by : (x : Wrote) → (x.answer ≡ Ok tt → ⊥) → Gives r out x → x.outbox ≡ out
       by x g (writes c zero right e o) = absurd (g e)
       by x g (refuses a c h e o) = o
 
@@ -182,23 +182,28 @@ module _ (r : Record) (out : List ℕ) where
         λ e. (writes-exactly a).0 (number-tells (write r out).answer a e),
         λ c. ap number_of ((writes-exactly a).1 c),
       ) in
-      record { written = tells Written; reserved = tells ReservedBit; above = tells QuantityAbove; short = tells OutboxShort }
+      record {
+        written = tells (Ok tt);
+        reserved = tells (Err ReservedBit);
+        above = tells (Err QuantityAbove);
+        short = tells (Err OutboxShort);
+      }
 
-  pub written_behind : (write r out).answer ≡ Written → (write r out).outbox ≡ bytes_of r ++ drop (needed r) out
+  pub written_behind : (write r out).answer ≡ Ok tt → (write r out).outbox ≡ bytes_of r ++ drop (needed r) out
   written_behind t = by (write r out) t (gives r out)
     where
-      by : (x : Wrote) → x.answer ≡ Written → Gives r out x → x.outbox ≡ bytes_of r ++ drop (needed r) out
+      by : (x : Wrote) → x.answer ≡ Ok tt → Gives r out x → x.outbox ≡ bytes_of r ++ drop (needed r) out
       by x t (writes c zero right e o) = o ∙ ap (λ (n : ℕ). bytes_of r ++ drop n out) (sym (needs-length r))
       by x t (refuses a c h e o) = absurd (h (sym e ∙ t))
 
   -- the tests that a written record has passed
-  pub written-tests : (write r out).answer ≡ Written → (no_reserved r ≡ true) × (all_right r ≡ true)
+  pub written-tests : (write r out).answer ≡ Ok tt → (no_reserved r ≡ true) × (all_right r ≡ true)
   written-tests t = by (write r out) t (gives r out)
     where
-      by : (x : Wrote) → x.answer ≡ Written → Gives r out x → (no_reserved r ≡ true) × (all_right r ≡ true)
+      by : (x : Wrote) → x.answer ≡ Ok tt → Gives r out x → (no_reserved r ≡ true) × (all_right r ≡ true)
       by x t (writes c zero right e o) = (zero, right)
       by x t (refuses a c h e o) = absurd (h (sym e ∙ t))
 
-  pub written-bytes : (write r out).answer ≡ Written
+  pub written-bytes : (write r out).answer ≡ Ok tt
       → ((write r out).outbox ≡ bytes_of r ++ drop (needed r) out) × (length (bytes_of r) ≡ needed r)
   written-bytes t = (written_behind t, bytes-length r ∙ sym (needs-length r))

@@ -7,6 +7,7 @@ use Prim.Native.Nat.{ℕ, ◌<◌, ◌≤◌}
 use native.Mathlib.Omega.{arith}
 use lib.ListN.{length, drop, length-append}
 use lib.Seq.{take_at}
+use Rattle.std.proofs.Common.{Ok}
 use Rattle.cycle.specs.Answers.{writes_report}
 use Rattle.cycle.specs.Hall.{stepped}
 use Rattle.cycle.specs.Records.{Record, minor, major}
@@ -35,7 +36,6 @@ use Rattle.writer.specs.Write.{write}
 use Rattle.writer.specs.Fit.{FitRecord}
 use Rattle.writer.specs.Refused.{needed}
 use Rattle.writer.specs.Sent.{monitor_over, report_written, reports_over}
-use Rattle.writer.specs.declared.answer.Writing.TheVariants.{Written}
 use Rattle.writer.proofs.Lengths.{bytes-length}
 use Rattle.writer.proofs.Refusals.{needs-length, written-tests}
 use Rattle.writer.proofs.WholeWritten.{written-record}
@@ -43,7 +43,7 @@ use Rattle.writer.proofs.ReadBack.{values-back}
 
 -- ---- one record that the writer writes
 
-module _ (r : Record) (box : List ℕ) (written : (write r box).answer ≡ Written) where
+module _ (r : Record) (box : List ℕ) (written : (write r box).answer ≡ Ok tt) where
   pub is_whole : WholeRecord (bytes_of r)
   is_whole = let t = written-tests r box written in written-record r t.0 t.1
 
@@ -61,7 +61,7 @@ module _ (r : Record) (box : List ℕ) (written : (write r box).answer ≡ Writt
         → call m (last ++ behind) out ≡ settled_to (stepped r m.hall) (length last) out
     last-settles m last behind out here room =
         whole-call m last behind out (bytes_of r) is_whole here room
-        ∙ ap (λ (x : Stepped). settled_to x (length last) out) (steps-by m.hall)
+        ∙ ap (λ (x : Stepped Hall). settled_to x (length last) out) (steps-by m.hall)
 
     -- all in one piece, to a reader that holds nothing
     pub one_piece : (m : Monitor) (behind out : List ℕ) → holds m ≡ [] → outbox_needed ≤ length out
@@ -107,7 +107,7 @@ module _ (h : Hall) (out : List ℕ) (room : outbox_needed ≤ length out) where
         ap (λ (x : Result). report_written x ++ reports_over x.outcome.monitor ps out) c ∙ next.1,
       )
 
-module _ (r : Record) (box : List ℕ) (written : (write r box).answer ≡ Written) (fits : FitRecord r) (out : List ℕ)
+module _ (r : Record) (box : List ℕ) (written : (write r box).answer ≡ Ok tt) (fits : FitRecord r) (out : List ℕ)
     (room : outbox_needed ≤ length out) where
   -- what comes of the pieces from a monitor m on
   abbrev Comes : Monitor → List (List ℕ) → Type 0
@@ -115,7 +115,7 @@ module _ (r : Record) (box : List ℕ) (written : (write r box).answer ≡ Writt
       (monitor_over m pieces out ≡ holding (stepped r m.hall).hall [])
       × (reports_over m pieces out ≡ report_of (stepped r m.hall).answer (stepped r m.hall).hall ∷ [])
 
-  settled-report : (x : Stepped) (n : ℕ) → writes_report x.answer ≡ true
+  settled-report : (x : Stepped Hall) (n : ℕ) → writes_report x.answer ≡ true
       → report_written (settled_to x n out) ≡ report_of x.answer x.hall ∷ []
   settled-report x n t =
       rw t (ap (λ (l : List ℕ). l ∷ []) (take_at (report_of x.answer x.hall) (drop 40 out) 40 (report-length x.answer x.hall)))

@@ -6,6 +6,7 @@ use mathlib.Core.Logic.{inl, inr}
 use Prim.Native.Nat.{ℕ, ◌<◌, ◌≤◌}
 use native.Mathlib.Omega.{arith}
 use lib.ListN.{length, get_or, drop}
+use Rattle.std.proofs.Common.{Ok}
 use Rattle.cycle.specs.Records.{Record, minor, major}
 use Rattle.feed.specs.Good.{WholeRecord}
 use Rattle.feed.specs.Values.{values_of}
@@ -17,25 +18,24 @@ use Rattle.writer.specs.Write.{wrote, write}
 use Rattle.writer.specs.Fit.{FitRecord}
 use Rattle.writer.specs.Refused.{WholeOf}
 use Rattle.writer.specs.Carries.{Carries}
-use Rattle.writer.specs.declared.answer.Writing.TheVariants.{Written}
 use Rattle.writer.proofs.Answering.{is-written}
 use Rattle.writer.proofs.Places.{mark_by}
 use Rattle.writer.proofs.ReadBack.{carried-values}
 use Rattle.writer.proofs.WriteBack.{bytes_back, values-right}
 
 pub whole_back : (l : List ℕ) → ((i : ℕ) → get_or l i 0 < 256) → WholeRecord l → (out : List ℕ) → length l ≤ length out
-    → write (values_of l) out ≡ wrote Written (l ++ drop (length l) out)
+    → write (values_of l) out ≡ wrote (Ok tt) (l ++ drop (length l) out)
 whole_back l bytes whole out room =
     let right = values-right l whole in
     let long : length_by (values_of l) ≡ length l = right.2 in
     sym
     (is-written (values_of l) out right.0 right.1 (bytes_of (values_of l)) (omega arith) refl)
-    ∙ ap₂ (λ (t : List ℕ) (n : ℕ). wrote Written (t ++ drop n out)) (bytes_back l bytes whole) long
+    ∙ ap₂ (λ (t : List ℕ) (n : ℕ). wrote (Ok tt) (t ++ drop n out)) (bytes_back l bytes whole) long
 
 -- the record that a call settles, of what it holds and is handed
 pub settled_back : (l : List ℕ) → ((i : ℕ) → get_or l i 0 < 256) → 0 < length (record_in l)
     → (out : List ℕ) → length (record_in l) ≤ length out
-    → write (values_in l) out ≡ wrote Written (record_in l ++ drop (length (record_in l)) out)
+    → write (values_in l) out ≡ wrote (Ok tt) (record_in l ++ drop (length (record_in l)) out)
 settled_back l bytes some out room =
     by-test (has_record l) (λ t. whole_back (record_in l) (record-bytes l bytes) (record-whole l t) out room)
     (λ t. let e = ap length (record-none l t) in absurd (omega arith))

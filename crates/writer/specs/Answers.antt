@@ -1,10 +1,14 @@
--- 02, order 1: "Refusal numbers are the writer's own, listed in docs/." Assumes nothing.
-use Rattle.std.specs.Prelude.{ℕ}
-use Rattle.writer.specs.declared.answer.Writing.{Writing}
-use Rattle.writer.specs.declared.answer.Writing.TheVariants.{Written, ReservedBit, QuantityAbove, OutboxShort}
+-- 02, order 1: what the writer answers, and "Refusal numbers are the writer's own, listed in docs/." Assumes nothing.
+use Rattle.std.specs.Prelude.{ℕ, Result, Ok, Err}
+use Rattle.writer.specs.declared.answer.Refused.{Refused}
+use Rattle.writer.specs.declared.answer.Refused.TheVariants.{ReservedBit, QuantityAbove, OutboxShort}
+
+-- the record is written, or refused
+abbrev pub Writing : Type 0
+Writing = Result (Unit {0}) Refused
 
 abbrev pub number_of : Writing → ℕ
-number_of Written = 0
-number_of ReservedBit = 1
-number_of QuantityAbove = 2
-number_of OutboxShort = 3
+number_of (Ok done) = 0
+number_of (Err ReservedBit) = 1
+number_of (Err QuantityAbove) = 2
+number_of (Err OutboxShort) = 3

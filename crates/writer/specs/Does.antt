@@ -1,11 +1,10 @@
 -- 02, order 1: all that is asked of what the writer gives back. Assumes nothing.
-use Rattle.std.specs.Prelude.{◌≡◌, List, ◌++◌, ◌↔◌, ℕ, ◌<◌, length, get_or, drop}
+use Rattle.std.specs.Prelude.{◌≡◌, List, ◌++◌, ◌↔◌, ℕ, ◌<◌, length, get_or, drop, Ok}
 use Rattle.cycle.specs.Records.{Record}
+use Rattle.writer.specs.Answers.{Writing}
 use Rattle.writer.specs.Write.{Wrote}
 use Rattle.writer.specs.Refused.{AnsweredWhen, needed, WholeOf}
 use Rattle.writer.specs.Carries.{Carries}
-use Rattle.writer.specs.declared.answer.Writing.{Writing}
-use Rattle.writer.specs.declared.answer.Writing.TheVariants.{Written}
 
 -- bytes l that are a whole record of the kind and carry the values; "Bytes past the record keep their values."
 pub record RecordIn (r : Record) (out box : List ℕ) : Type 0 where
@@ -20,6 +19,6 @@ pub record Does (r : Record) (out : List ℕ) (x : Wrote) : Type 0 where
   -- "refuse a reserved bit or a quantity above 1,000, or an outbox too short, .. in that order of checks"
   pub answers : (a : Writing) → (x.answer ≡ a) ↔ AnsweredWhen a r (length out)
   -- "leaving the outbox unchanged"
-  pub unchanged : (x.answer ≡ Written → ⊥) → x.outbox ≡ out
+  pub unchanged : (x.answer ≡ Ok tt → ⊥) → x.outbox ≡ out
   -- "write its 59 or .. bytes into a lent outbox"; order 6: 619
-  pub writes : x.answer ≡ Written → RecordIn r out x.outbox
+  pub writes : x.answer ≡ Ok tt → RecordIn r out x.outbox

@@ -1,6 +1,6 @@
 -- Records sent: one cut into pieces, and several one after the other as a feed, the oldest first; and what their values make of a hall. The
 -- numbers are written as the documents write them. Assumes nothing.
-use Rattle.std.specs.Prelude.{◌≡◌, cond, List, [], ◌∷◌, ◌++◌, ℕ, take}
+use Rattle.std.specs.Prelude.{◌≡◌, cond, List, [], ◌∷◌, ◌++◌, ℕ, take, Ok}
 use Rattle.cycle.specs.Answers.{writes_report}
 use Rattle.cycle.specs.Hall.{stepped}
 use Rattle.cycle.specs.Records.{Record}
@@ -11,7 +11,6 @@ use Rattle.feed.specs.declared.call.Monitor.{Monitor}
 use Rattle.writer.specs.RecordBytes.{bytes_of}
 use Rattle.writer.specs.Write.{write}
 use Rattle.writer.specs.Fit.{FitRecord}
-use Rattle.writer.specs.declared.answer.Writing.TheVariants.{Written}
 
 -- ---- one record, in pieces: calls on any monitor, each handed the next piece, once, and the same outbox
 
@@ -33,7 +32,7 @@ reports_over m (p ∷ ps) out = report_written (call m p out) ++ reports_over (c
 -- each is as its arrays and types hold it, and the writer writes it, given an outbox
 pub data AllWritten : List Record → Type 0 where
   none : AllWritten []
-  more : {r : Record} {rs : List Record} (out : List ℕ) → FitRecord r → (write r out).answer ≡ Written → AllWritten rs
+  more : {r : Record} {rs : List Record} (out : List ℕ) → FitRecord r → (write r out).answer ≡ Ok tt → AllWritten rs
       → AllWritten (r ∷ rs)
 
 unfoldable pub sent_bytes : List Record → List ℕ

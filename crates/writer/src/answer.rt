@@ -1,24 +1,23 @@
-// The writer's answers, with numbers of their own.
+// Why the writer refuses a record, and the numbers of its answers.
 ghost use Rattle.std.specs.Prelude.{◌≡◌};
 ghost use Rattle.writer.specs.Answers.{number_of};
 
-#[derive(Clone, Copy)]
-pub enum Writing {
-    Written,
+// In the order of the checks.
+#[derive(Clone, Copy, Debug, PartialEq, Eq)]
+pub enum Refused {
     ReservedBit,
     QuantityAbove,
     OutboxShort,
 }
 
-impl Writing {
-    pub fn number(self) -> u8
-        ensures { result ≡ number_of self }
-    {
-        match self {
-            Writing::Written => 0,
-            Writing::ReservedBit => 1,
-            Writing::QuantityAbove => 2,
-            Writing::OutboxShort => 3,
-        }
+// The answer's number: 0 where the record is written.
+pub fn number(written: Result<(), Refused>) -> u8
+    ensures { result ≡ number_of written }
+{
+    match written {
+        Ok(()) => 0,
+        Err(Refused::ReservedBit) => 1,
+        Err(Refused::QuantityAbove) => 2,
+        Err(Refused::OutboxShort) => 3,
     }
 }

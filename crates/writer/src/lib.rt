@@ -4,6 +4,7 @@
 #![tactic(auto)]
 
 pub mod answer;
+pub mod part;
 pub mod record;
 pub mod test;
 pub mod write;

@@ -7,6 +7,7 @@ use cycle::values::{Minor, Quantities};
 use feed::size::{MOST_QUANTITY, RESERVED_FROM};
 
 // Are the reserved bits of the path byte zero?
+#[tactic(auto, unfolding(crate::specs::Write::reserved_zero))]
 pub(crate) fn reserved_zero(r: Minor) -> bool
     ensures { result ≡ reserved_zero r }
 {
@@ -14,6 +15,7 @@ pub(crate) fn reserved_zero(r: Minor) -> bool
 }
 
 // Are a module's two quantities at most 1,000?
+#[tactic(auto, unfolding(crate::specs::Write::two_right))]
 fn two_right(q: Quantities) -> bool
     ensures { result ≡ two_right q }
 {
@@ -24,12 +26,5 @@ fn two_right(q: Quantities) -> bool
 pub(crate) fn quantities_right(quantities: [Quantities; MODULES]) -> bool
     ensures { result ≡ quantities_right quantities }
 {
-    let mut right = true;
-    let mut m: usize = 0;
-    while m < MODULES {
-        let q = quantities[m];
-        right = right & two_right(q);
-        m += 1;
-    }
-    right
+    quantities.iter().all(|q| two_right(*q))
 }

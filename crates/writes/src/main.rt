@@ -9,7 +9,7 @@
 // request that breaks off, at another kind and at a longer outbox the program stops silently.
 #![tactic(auto)]
 
-ghost use Rattle.std.specs.Prelude.{◌≡◌, true, ◌+◌, ◌≤◌, length};
+ghost use Rattle.std.specs.Prelude.{◌≡◌, true, ◌+◌, ◌≤◌, length, IfSome};
 ghost use Rattle.writes.specs.Request.{allowed, reply};
 
 mod request;
@@ -18,45 +18,31 @@ use crate::request::{
     HEADER_LENGTH, Header, REPLY_LENGTH, Request, allowed, header_in, put_reply, values_length,
 };
 use feed::size::{MAJOR_LENGTH, MARK_LENGTH};
+use lines::read::came;
 use std::io::{Read, Write};
 
-// Reads the next n bytes to the front of the buffer; no, where they do not fit or the input ends before.
-fn came(reader: &mut impl Read, buf: &mut [u8], n: usize) -> bool
-    ensures { result ≡ true → n ≤ length buf.new }
-{
-    if n <= buf.len() {
-        reader.read_exact(&mut buf[..n]).is_ok()
-    } else {
-        false
-    }
-}
-
-// The next request. Its values come to the places that they have in a record, behind those of a mark.
-fn next_request(reader: &mut impl Read) -> Request
-    ensures { result.whole ≡ true → allowed result.header ≡ true }
+// The next request; none at another kind, at a longer outbox and where the input ends before. Its values come to the places that they have
+// in a record, behind those of a mark.
+fn next_request(reader: &mut impl Read) -> Option<Request>
+    ensures { IfSome result (λ q. allowed q.header ≡ true) }
 {
     let mut head = [0u8; HEADER_LENGTH];
-    let mut values = [0u8; MAJOR_LENGTH];
-    let begun = came(reader, &mut head, HEADER_LENGTH);
-    let header = header_in(&head);
-    let stop = Request {
-        whole: false,
-        header: header,
-        values: values,
-    };
-    if !begun {
-        return stop;
+    if !came(reader, &mut head, HEADER_LENGTH) {
+        return None;
     }
+    let header = header_in(&head)?;
     if !allowed(header) {
-        return stop;
+        return None;
     }
-    let n = values_length(header.kind);
-    let whole = came(reader, &mut values[MARK_LENGTH..], n);
-    Request {
-        whole: whole,
-        header: header,
-        values: values,
+    let mut values = [0u8; MAJOR_LENGTH];
+    if !came(
+        reader,
+        &mut values[MARK_LENGTH..],
+        values_length(header.kind),
+    ) {
+        return None;
     }
+    Some(Request { header, values })
 }
 
 // The one function that writes: the reply to a request and nothing else; no, where that fails.
@@ -79,25 +65,19 @@ fn sent(writer: &mut impl Write, b: &mut [u8], h: Header, values: &[u8]) -> bool
 fn replied(writer: &mut impl Write, q: Request) -> bool
     requires { allowed q.header ≡ true }
 {
-    let header = q.header;
-    let values = q.values;
     let mut b = [0u8; REPLY_LENGTH];
-    let n = 1 + header.room;
-    sent(writer, &mut b[..n], header, &values)
+    sent(writer, &mut b[..1 + q.header.room], q.header, &q.values)
 }
 
 fn main(rt: HostRuntime) {
     let mut reader = rt.stdin();
     let mut writer = rt.stdout();
-    let mut turns = u64::MAX;
-    while turns > 0 {
-        let q = next_request(&mut reader);
-        if !q.whole {
+    for _ in 0..u64::MAX {
+        let Some(q) = next_request(&mut reader) else {
             return;
-        }
+        };
         if !replied(&mut writer, q) {
             return;
         }
-        turns -= 1;
     }
 }

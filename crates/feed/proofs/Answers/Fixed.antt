@@ -59,7 +59,7 @@ case-answer : (m : Monitor) (piece out : List ℕ) (c : Result) → CallCase m p
     → Condition a m.hall outbox_needed (record_in (holds m ++ piece)) → c.outcome.answer ≡ a
 case-answer m piece out c (none z) a w = idle-by a m.hall (record_in (holds m ++ piece)) (record-none (holds m ++ piece) z) w
 case-answer m piece out c (some z held used x short fits back same) a w =
-    ap (λ (y : Stepped). y.answer) same ∙ step_by m.hall (holds m ++ piece) z a w
+    ap (λ (y : Stepped Hall). y.answer) same ∙ step_by m.hall (holds m ++ piece) z a w
 
 -- an outbox that is too short
 pub short-call : (m : Monitor) (piece out : List ℕ) → length out < outbox_needed

@@ -6,8 +6,8 @@ use Rattle.cycle.specs.Hall.{verdict_on, stepped_by, stepped}
 use Rattle.cycle.specs.declared.answer.Answer.{Answer}
 use Rattle.cycle.specs.declared.answer.Answer.TheVariants.{Taken}
 use Rattle.cycle.specs.declared.hall.Stepped.{Stepped}
-use Rattle.cycle.specs.declared.number.Verdict.{Verdict}
-use Rattle.cycle.specs.declared.number.Verdict.TheVariants.{Takes, Refuses}
+use Rattle.cycle.specs.Numbers.{Verdict}
+use Rattle.std.specs.Prelude.{Ok, Err}
 use Rattle.cycle.proofs.Verdicts.{Refusal, as_stale, as_repeat, as_ended, as_wrong, as_both_ways, verdict-refuses}
 use Rattle.feed.specs.Report.{report_of}
 use Rattle.feed.specs.Size.{outbox_needed, report_length}
@@ -20,9 +20,10 @@ use Rattle.feed.proofs.Calls.Calling.{call-called}
 use Rattle.feed.proofs.Calls.CallCases.{CallCase, none, some, call-case}
 use Rattle.feed.proofs.Answers.StepAnswers.{taken-number}
 use Rattle.feed.proofs.Answers.Fixed.{short-call}
+use Rattle.cycle.specs.declared.hall.Hall.{Hall}
 
 -- a settled record, by the hall's verdict on it
-abbrev result : Stepped → ℕ → List ℕ → List ℕ → Result
+abbrev result : Stepped Hall → ℕ → List ℕ → List ℕ → Result
 result x used held out = record {
   outcome = record { answer = x.answer; used = used; monitor = holding x.hall held };
   outbox = report_of x.answer x.hall ++ drop report_length out;
@@ -36,7 +37,7 @@ refusal-leaves as_ended m piece out held used = (refl, refl)
 refusal-leaves as_wrong m piece out held used = (refl, refl)
 refusal-leaves as_both_ways m piece out held used = (refl, refl)
 
-leaves-step : (m : Monitor) (piece out held : List ℕ) (used : ℕ) (x : Stepped) → x ≡ stepped (values_in (holds m ++ piece)) m.hall
+leaves-step : (m : Monitor) (piece out held : List ℕ) (used : ℕ) (x : Stepped Hall) → x ≡ stepped (values_in (holds m ++ piece)) m.hall
     → Leaves x.answer m piece out (result x used held out)
 unfolding stepped
 leaves-step m piece out held used x e = by (verdict_on m.hall.n m.hall.masks r) refl e
@@ -46,14 +47,14 @@ leaves-step m piece out held used x e = by (verdict_on m.hall.n m.hall.masks r) 
 
     by : (v : Verdict) → verdict_on m.hall.n m.hall.masks r ≡ v → x ≡ stepped_by v r m.hall
         → Leaves x.answer m piece out (result x used held out)
-    by (Refuses a) f q = rw q (refusal-leaves (verdict-refuses m.hall.n m.hall.masks r a f) m piece out held used)
-    by (Takes next) f q =
+    by (Err a) f q = rw q (refusal-leaves (verdict-refuses m.hall.n m.hall.masks r a f) m piece out held used)
+    by (Ok next) f q =
         let n : x.hall.n ≡ m.hall.n + apart m.hall.n (record_in (holds m ++ piece)) =
-        ap (λ (y : Stepped). y.hall.n) e
+        ap (λ (y : Stepped Hall). y.hall.n) e
         ∙ taken-number m.hall (record_in (holds m ++ piece))
-        (ap (λ (y : Stepped). is_taken y.answer) (sym e ∙ q)) in
-        let a : x.answer ≡ Taken = ap (λ (y : Stepped). y.answer) q in
-        rw a (ap (λ (y : Stepped). y.hall) e, n, refl)
+        (ap (λ (y : Stepped Hall). is_taken y.answer) (sym e ∙ q)) in
+        let a : x.answer ≡ Taken = ap (λ (y : Stepped Hall). y.answer) q in
+        rw a (ap (λ (y : Stepped Hall). y.hall) e, n, refl)
 
 leaves_by : (m : Monitor) (piece out : List ℕ) (c : Result) → CallCase m piece out c → Leaves c.outcome.answer m piece out c
 leaves_by m piece out c (none z) = (refl, refl, refl)

@@ -8,8 +8,8 @@ use Rattle.cycle.specs.Hall.{record_both_ways, verdict_on, stepped_by, stepped}
 use Rattle.cycle.specs.declared.answer.Answer.{Answer}
 use Rattle.cycle.specs.declared.answer.Answer.TheVariants.{Taken, Stale, Repeat, CountEnded, WrongKind, BothWays}
 use Rattle.cycle.specs.declared.hall.Hall.{Hall}
-use Rattle.cycle.specs.declared.number.Verdict.{Verdict}
-use Rattle.cycle.specs.declared.number.Verdict.TheVariants.{Takes, Refuses}
+use Rattle.cycle.specs.Numbers.{Verdict}
+use Rattle.std.specs.Prelude.{Ok, Err}
 use Rattle.cycle.proofs.BothWays.{names-exactly}
 use Rattle.cycle.proofs.Verdicts.{verdict-refused, verdict-named, verdict-takes, verdict-follows, verdict-untaken}
 use Rattle.cycle.proofs.HallAgrees.{number-after}
@@ -31,8 +31,8 @@ module _ (h : Hall) (r : List ℕ) where
   answered v e = ap (λ (x : Verdict). (stepped_by x values h).answer) e
 
   -- refused by its number
-  refused : (a : Answer) → judged h.n (common values).wire (major_kind values) ≡ Refuses a → (stepped values h).answer ≡ a
-  refused a e = answered (Refuses a) (verdict-refused h.n h.masks values a e)
+  refused : (a : Answer) → judged h.n (common values).wire (major_kind values) ≡ Err a → (stepped values h).answer ≡ a
+  refused a e = answered (Err a) (verdict-refused h.n h.masks values a e)
 
   pub repeat-step : apart h.n r ≡ 0 → (stepped values h).answer ≡ Repeat
   repeat-step e = refused Repeat (judged-repeat h.n _ _ (far ∙ e))
@@ -69,7 +69,7 @@ module _ (h : Hall) (r : List ℕ) where
     -- its number lets it be taken
     right : h.n + apart h.n r ≤ 4294967295 → Matched (h.n + apart h.n r) r
         → judged h.n (common values).wire (major_kind values)
-        ≡ Takes (record { n = h.n + d; gap = ltb 1 d; missed = missed_major h.n (h.n + d) })
+        ≡ Ok (record { n = h.n + d; gap = ltb 1 d; missed = missed_major h.n (h.n + d) })
     right l matched = after ∙ follows-right h.n d (ltb 1 d) (major_kind values) (rw far l) (by matched)
       where
         by : Matched (h.n + apart h.n r) r → is_major (h.n + d) ≡ major_kind values
@@ -79,13 +79,13 @@ module _ (h : Hall) (r : List ℕ) where
     module _ (l : h.n + apart h.n r ≤ 4294967295) (matched : Matched (h.n + apart h.n r) r) where
       pub both-ways-step : BothWaysSaid h.masks r → (stepped values h).answer ≡ BothWays
       both-ways-step said =
-          answered (Refuses BothWays)
+          answered (Err BothWays)
           (verdict-named h.n h.masks values _ (right l matched)
           ((names-exactly h.masks values).1 ((both-ways-heard h.masks r).1 said)))
 
       pub right-step : (BothWaysSaid h.masks r → ⊥) → (stepped values h).answer ≡ Taken
       right-step unsaid =
-          answered (Takes _)
+          answered (Ok _)
           (verdict-takes h.n h.masks values _ (right l matched)
           (not_yes (record_both_ways h.masks values)
           (λ e. unsaid ((both-ways-heard h.masks r).0 ((names-exactly h.masks values).0 e)))))
@@ -101,8 +101,8 @@ taken-number h r t = by (verdict_on h.n h.masks v) refl t
 
     by : (x : Verdict) → verdict_on h.n h.masks v ≡ x → is_taken (stepped_by x v h).answer ≡ true
         → (stepped_by x v h).hall.n ≡ h.n + apart h.n r
-    by (Takes next) e q =
+    by (Ok next) e q =
         number-after v next h
         ∙ (verdict-follows h.n h.masks v next e).number
         ∙ ap (λ (w : ℕ). h.n + distance h.n w) (wire-of r)
-    by (Refuses a) e q = not-both (is_taken a) q (verdict-untaken h.n h.masks v a e)
+    by (Err a) e q = not-both (is_taken a) q (verdict-untaken h.n h.masks v a e)

@@ -48,7 +48,7 @@ module _ (masks : List Masks) (cs : List Made) (piece : List ℕ) where
   report-same e =
       let w = written.report e in
       let a : writes_report (answer_of masks made cs) ≡ true =
-      ap (λ (x : Outcome). writes_report x.answer) same_outcome ∙ e in
+      ap (λ (x : Outcome Monitor). writes_report x.answer) same_outcome ∙ e in
       let o : report_in masks made cs ≡ c.outbox =
       ap (λ (x : Result). take report_length x.outbox) (call-called m piece room room-enough)
       ∙ ap (take report_length) w.0
@@ -58,7 +58,7 @@ module _ (masks : List Masks) (cs : List Made) (piece : List ℕ) where
   report-none : writes_report c.outcome.answer ≡ false → cond (writes_report (answer_of masks made cs)) (report_in masks made cs) [] ≡ []
   report-none e =
       let a : writes_report (answer_of masks made cs) ≡ false =
-      ap (λ (x : Outcome). writes_report x.answer) same_outcome ∙ e in
+      ap (λ (x : Outcome Monitor). writes_report x.answer) same_outcome ∙ e in
       rw a refl
 
 -- a call more before the others
@@ -83,7 +83,7 @@ module _ (masks : List Masks) (feed behind : List ℕ) where
   handed : (cs : List Made) (piece : List ℕ) → Hands masks feed cs (piece ++ behind)
       → Hands masks feed (made masks cs piece ∷ cs) (drop (c masks cs piece).outcome.used piece ++ behind)
   handed cs piece h =
-      calls behind room-enough h refl (ap (λ (x : Outcome). drop x.used piece ++ behind) (sym (same_outcome masks cs piece)))
+      calls behind room-enough h refl (ap (λ (x : Outcome Monitor). drop x.used piece ++ behind) (sym (same_outcome masks cs piece)))
 
   -- there is no room for a call
   full : (most room : ℕ) (cs : List Made) (piece : List ℕ) → Hands masks feed cs (piece ++ behind) → room < outbox_needed
@@ -112,9 +112,9 @@ module _ (masks : List Masks) (feed behind : List ℕ) where
           within = used-within (m masks cs piece) piece [];
           full = λ y. not-both false y refl;
           hands = handed cs piece h;
-          monitor = ap (λ (x : Outcome). x.monitor) same;
+          monitor = ap (λ (x : Outcome Monitor). x.monitor) same;
           reports = ap (λ (t : List ℕ). all_reports masks cs ++ t) (report-none masks cs piece e);
-          idle = λ y. ((ap (λ (x : Outcome). x.answer) same ∙ i.0, tt), i.1);
+          idle = λ y. ((ap (λ (x : Outcome Monitor). x.answer) same ∙ i.0, tt), i.1);
         })
 
     more : room ≤ suc most → Batch most → writes_report (called (monitor_after masks cs) piece []).outcome.answer ≡ true
@@ -124,7 +124,7 @@ module _ (masks : List Masks) (feed behind : List ℕ) where
         let one : Result = c masks cs piece in
         let first : Made = made masks cs piece in
         let after : monitor_after masks (first ∷ cs) ≡ one.outcome.monitor =
-        ap (λ (x : Outcome). x.monitor) (same_outcome masks cs piece) in
+        ap (λ (x : Outcome Monitor). x.monitor) (same_outcome masks cs piece) in
         let rest : List ℕ = drop one.outcome.used piece in
         let long = ((written masks cs piece).report e).1 in
         let left : ℕ = room - length one.outbox in
@@ -136,7 +136,7 @@ module _ (masks : List Masks) (feed behind : List ℕ) where
         let far : drop r.used rest ≡ drop (one.outcome.used + r.used) piece = drop-drop r.used one.outcome.used piece in
         let sum = length-append one.outbox r.reports in
         let settled : writes_report (answer_of masks first cs) ≡ true =
-        ap (λ (x : Outcome). writes_report x.answer) (same_outcome masks cs piece) ∙ e in
+        ap (λ (x : Outcome Monitor). writes_report x.answer) (same_outcome masks cs piece) ∙ e in
         rw (runs-more most room (monitor_after masks cs) piece l e) (record {
           more = y.more ++ (first ∷ []);
           fits = omega (arith, y.fits, sum, long);

@@ -70,7 +70,7 @@ written-by : (t : Bool) (hall : Hall) (s : Stop) (used : ℕ) (out : List ℕ) �
 written-by false hall s used out e = record { outcome = refl; report = λ q. not-both false q refl; none = λ q. refl }
 written-by true hall s used out e =
     let r : List ℕ = take (length_shown (look s.left)) s.left in
-    let x : Stepped = step_of r hall in
+    let x : Stepped Hall = step_of r hall in
     let report : List ℕ = report_of x.answer x.hall in
     record {
       outcome = refl;

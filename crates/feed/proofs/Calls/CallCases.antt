@@ -19,6 +19,7 @@ use Rattle.feed.proofs.Calls.Steps.{step-whole}
 use Rattle.feed.proofs.Reading.FirstRecord.{record-is-whole}
 use Rattle.feed.proofs.Calls.Turning.{rest-short}
 use Rattle.feed.proofs.Calls.Calling.{holds-short}
+use Rattle.cycle.specs.declared.hall.Hall.{Hall}
 
 -- the rest of a piece is its end
 abbrev EndOf : List ℕ → List ℕ → Type 0
@@ -51,7 +52,7 @@ pub data CallCase (m : Monitor) (piece out : List ℕ) : Result → Type 0 where
             { answer = NothingSettled; used = length piece; monitor = holding m.hall (settle (holds m ++ piece)) };
         outbox = out;
       })
-  some : has_record (holds m ++ piece) ≡ true → (held : List ℕ) (used : ℕ) (x : Stepped) → length held ≤ most_held
+  some : has_record (holds m ++ piece) ≡ true → (held : List ℕ) (used : ℕ) (x : Stepped Hall) → length held ≤ most_held
       → used ≤ length piece
       → held ++ drop used piece ≡ behind_in (holds m ++ piece)
       → x ≡ stepped (values_in (holds m ++ piece)) m.hall

@@ -14,8 +14,8 @@ use Rattle.cycle.specs.Inside.Runs as runs
 use Rattle.cycle.specs.declared.hall.Hall.{Hall}
 use Rattle.cycle.specs.declared.hall.Stepped.{Stepped}
 use Rattle.cycle.specs.declared.map.Masks.{Masks}
-use Rattle.cycle.specs.declared.number.Verdict.{Verdict}
-use Rattle.cycle.specs.declared.number.Verdict.TheVariants.{Takes, Refuses}
+use Rattle.cycle.specs.Numbers.{Verdict}
+use Rattle.std.specs.Prelude.{Ok, Err}
 use Rattle.cycle.proofs.Maps.{in-word}
 use Rattle.cycle.proofs.Verdicts.{verdict-follows}
 use Rattle.cycle.proofs.HallAgrees.{number-after}
@@ -73,7 +73,7 @@ abbrev grown : Bool → List ℕ → List Heard → List Heard
 grown b r ts = cond b (record { n = reached_by ts + apart (reached_by ts) r; bytes = r } ∷ ts) ts
 
 module _ (masks : List Masks) (h : Hall) (ts : List Heard) (kept : Kept masks h ts) (l : List ℕ) (z : has_record l ≡ true) where
-  abbrev x : Stepped
+  abbrev x : Stepped Hall
   x = stepped (values_in l) h
 
   most-next : x.hall.n ≤ last_count
@@ -81,8 +81,8 @@ module _ (masks : List Masks) (h : Hall) (ts : List Heard) (kept : Kept masks h 
   most-next = by (verdict_on h.n h.masks (values_in l)) refl
     where
       by : (v : Verdict) → verdict_on h.n h.masks (values_in l) ≡ v → (stepped_by v (values_in l) h).hall.n ≤ last_count
-      by (Takes next) e = rw (number-after (values_in l) next h) (verdict-follows h.n h.masks (values_in l) next e).most
-      by (Refuses a) e = kept.most
+      by (Ok next) e = rw (number-after (values_in l) next h) (verdict-follows h.n h.masks (values_in l) next e).most
+      by (Err a) e = kept.most
 
   run-next : (b : Bool) → is_taken x.answer ≡ b
       → Run masks x.hall (cond b (record { n = x.hall.n; values = values_in l } ∷ kept.values) kept.values)
@@ -124,7 +124,7 @@ module _ (masks : List Masks) (m : Monitor) (piece out : List ℕ) (ts : List He
   kept_by_lem : (c : Result) → CallCase m piece out c → After c
   kept_by_lem c (none z) = kept
   kept_by_lem c (some z held used x short fits back same) =
-      let y : Stepped = stepped (values_in (holds m ++ piece)) m.hall in
+      let y : Stepped Hall = stepped (values_in (holds m ++ piece)) m.hall in
       rw same (step_kept masks m.hall ts kept (holds m ++ piece) z (is_taken y.answer) refl)
 
   pub call_kept : After (call m piece out)

@@ -1,7 +1,8 @@
 -- A call is a turn on a monitor put in order: bytes that a state claims but may not hold, and those behind the held ones, change nothing.
 -- Assumes nothing.
-use Rattle.std.proofs.Common.{◌≡◌, ℕ, ◌+◌, ◌-◌, ◌≤◌, Bool, true, false, cond, ltb, List, length, take, drop, replicate, refl, ap, ◌∙◌, zero-add, arith, ltb-false, le-ltb}
+use Rattle.std.proofs.Common.{◌≡◌, ℕ, ◌+◌, ◌-◌, ◌≤◌, Bool, true, false, cond, ltb, unwrap_or, List, length, take, drop, replicate, refl, ap, ◌∙◌, zero-add, arith, ltb-false, le-ltb}
 use borrow.Rule.Slice.PartMut.{put_mid}
+use Rattle.cycle.specs.declared.answer.Answer.TheVariants.{NothingSettled}
 use Rattle.feed.specs.Size.{store_length, most_held, outbox_needed}
 use Rattle.feed.specs.Reader.{store, held_count, held_of}
 use Rattle.feed.specs.Call.{holds, holding, Result, called, call}
@@ -54,8 +55,8 @@ call-called m piece out h = rw (le-ltb (length out) outbox_needed h)
 
 -- what a turn leaves, put together
 pub turned-outcome : (c : Result) (r : Turned) (b out : List ℕ) → Turns c 0 r b out
-    → ◌≡◌ {A = Outcome}
-    (record { answer = r.answer; used = r.used; monitor = record { hall = r.hall; held = b; count = r.count } }) c.outcome
+    → ◌≡◌ {A = Outcome Monitor}
+    (record { answer = unwrap_or r.answer NothingSettled; used = r.used; monitor = record { hall = r.hall; held = b; count = r.count } }) c.outcome
 turned-outcome c r b out t =
     let used : r.used ≡ c.outcome.used = t.used ∙ zero-add c.outcome.used in
     λ i. record

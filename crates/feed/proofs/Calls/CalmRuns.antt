@@ -1,5 +1,5 @@
 -- Calm records in a run: what the loop keeps for them, and that each is the call that the definition makes. Assumes nothing.
-use Rattle.std.proofs.Common.{◌≡◌, ℕ, ◌+◌, ◌-◌, ◌≤◌, Bool, true, false, cond, ◌&&◌, eqb, List, [], ◌++◌, length, take, drop, replicate, sym, refl, ap, ◌∙◌, ap₂, append_assoc, arith, length-drop, take-append-drop, length-take-le, drop-drop, take_at, take-add, drop_at, eqb-true}
+use Rattle.std.proofs.Common.{◌≡◌, ℕ, ◌+◌, ◌-◌, ◌≤◌, Bool, true, false, cond, ◌&&◌, eqb, Option, None, Some, IfSome, is_some, unwrap_or, List, [], ◌++◌, length, take, drop, sym, refl, ap, ◌∙◌, ap₂, append_assoc, arith, length-drop, take-append-drop, length-take-le, drop-drop, take_at, take-add, drop_at, eqb-true}
 use borrow.Rule.Slice.PartMut.{put_mid}
 use lib.Bits.{bit_and}
 use Rattle.bits.proofs.Yes.{and_left, and_right, not-both}
@@ -9,11 +9,10 @@ use Rattle.cycle.specs.Answers.{is_taken, writes_report}
 use Rattle.cycle.specs.Hall.{stepped}
 use Rattle.cycle.specs.Calm.{all_calm, mapped_words, kept_all, onward}
 use Rattle.cycle.specs.declared.answer.Answer.{Answer}
-use Rattle.cycle.specs.declared.answer.Answer.TheVariants.{Taken}
+use Rattle.cycle.specs.declared.answer.Answer.TheVariants.{Taken, NothingSettled}
 use Rattle.cycle.specs.declared.banks.Bank.{Bank}
 use Rattle.cycle.specs.declared.hall.Hall.{Hall}
 use Rattle.cycle.specs.declared.hall.Stepped.{Stepped}
-use Rattle.cycle.specs.declared.map.Masks.{Masks}
 use Rattle.cycle.specs.declared.values.Quantities.{Quantities}
 use Rattle.cycle.proofs.Answers.{taken-only}
 use Rattle.cycle.proofs.CalmMajors.{kept-calm, kept-fail, kept-close}
@@ -26,11 +25,10 @@ use Rattle.feed.specs.Reader.{Stop, reads, store}
 use Rattle.feed.specs.Report.{head_of, string_bytes, strings_bytes, report_by, reported_fail, reported_close, report_of}
 use Rattle.feed.specs.Call.{holds, holding, Result, called_by, called, call}
 use Rattle.feed.specs.OneRecord.{settled_to}
-use Rattle.feed.specs.Inside.Calm.{Words, turned_words, TurnedJets, passes, passes_at, renumbered, told_again, calm_after}
+use Rattle.feed.specs.Inside.Calm.{turned_words, CalmOf, passes, passes_at, renumbered, told_again, calm_after}
 use Rattle.feed.specs.Inside.Calm.{major_passes, major_passes_at, kept_after, rebanked, told_kept, kept_by}
 use Rattle.feed.specs.Inside.Turn.{Turns}
 use Rattle.feed.specs.declared.calm.Calm.{Calm}
-use Rattle.feed.specs.declared.calm.Kept.{Kept}
 use Rattle.feed.specs.declared.call.Monitor.{Monitor}
 use Rattle.feed.specs.declared.call.Turned.{Turned}
 use Rattle.feed.proofs.Reading.Found.{rest-whole}
@@ -43,10 +41,9 @@ use Rattle.feed.proofs.Calls.Calms.{passes-whole, passes-steps, tested-long}
 use Rattle.feed.proofs.Calls.CalmMajors.{major-whole, major-steps}
 
 -- nothing is under way or in the store, the mapped jets are the hall's, and the report before is that of a taken record
-pub record Calmed (hall : Hall) (jets turned-jets : List ℕ) (count written : ℕ) (out : List ℕ) : Type 0 where
+pub record Calmed (hall : Hall) (jets : Calm) (count written : ℕ) (out : List ℕ) : Type 0 where
   pub calm : all_calm string_count hall.strings ≡ true
-  pub plain : jets ≡ mapped_words hall.masks
-  pub turned : TurnedJets hall turned-jets
+  pub jets_of : CalmOf hall jets
   pub none : count ≡ 0
   pub told : report_length ≤ written
   pub before : take report_length (drop (written - report_length) out) ≡ report_of Taken hall
@@ -67,7 +64,7 @@ module _ (h : Hall) (p out : List ℕ) (size : ℕ) (long : size ≤ length p) (
       sym (call-called (holding h []) p out room)
       ∙ ap (λ (x : List ℕ). call (holding h []) x out) (sym (take-append-drop size p))
       ∙ whole-call (holding h []) l (drop size p) out l whole here room
-      ∙ ap₂ (λ (x : Stepped) (k : ℕ). settled_to x k out) steps (length-take-le size p long)
+      ∙ ap₂ (λ (x : Stepped Hall) (k : ℕ). settled_to x k out) steps (length-take-le size p long)
 
 -- the report of a minor one is the one before with another number
 report-again : (h : Hall) → renumbered (h.n + 1) (report_of Taken h) ≡ report_of Taken (onward h)
@@ -93,10 +90,16 @@ report-kept q h =
     ∙ other-banks after.banks (onward h)
     ∙ (λ i. report_by Taken (h.n + 1) (λ s. fail s i) (λ s. close s i) after.banks)
 
+-- what the shortcut of a major one leaves, if it passes
+kept-some : (t : Bool) (h after : Hall) (from : ℕ) (piece : List ℕ) → Some after ≡ kept_by t h from piece
+    → (t ≡ true) × (after ≡ kept_after h from piece)
+kept-some true h after from piece e = (refl, cc)
+kept-some false h after from piece e = let z : ◌≡◌ {A = ℕ} 0 1 = cc in absurd (omega arith)
+
 -- ---- the loop
 
-module _ (m : Monitor) (piece out₀ : List ℕ) (hall : Hall) (b jets turned-jets : List ℕ) (count used written : ℕ) (out : List ℕ)
-    (s : Loops m piece out₀ hall b count used written out) (c : Calmed hall jets turned-jets count written out)
+module _ (m : Monitor) (piece out₀ : List ℕ) (hall : Hall) (b : List ℕ) (jets : Calm) (count used written : ℕ) (out : List ℕ)
+    (s : Loops m piece out₀ hall b count used written out) (c : Calmed hall jets count written out)
     (full : outbox_needed ≤ length out - written) where
   abbrev last : ℕ
   last = written - report_length
@@ -120,7 +123,7 @@ module _ (m : Monitor) (piece out₀ : List ℕ) (hall : Hall) (b jets turned-je
       (steps : stepped (values_of (take size (drop used piece))) hall ≡ record { answer = Taken; hall = after })
       (calm : all_calm string_count after.strings ≡ true) (map : hall.masks ≡ after.masks) where
     abbrev next : Turned
-    next = record { settled = true; answer = Taken; hall = after; count = count; used = used + size }
+    next = record { answer = Some Taken; hall = after; count = count; used = used + size }
 
     -- the outbox behind what was written
     abbrev told : List ℕ
@@ -166,7 +169,7 @@ module _ (m : Monitor) (piece out₀ : List ℕ) (hall : Hall) (b jets turned-je
 
       -- one record more
       record-goes : Loops m piece out₀ after b count (used + size) (written + report_length) (put_mid last (length out - last) out o)
-          × Calmed after jets turned-jets count (written + report_length) (put_mid last (length out - last) out o)
+          × Calmed after jets count (written + report_length) (put_mid last (length out - last) out o)
       record-goes =
           let w : written ≤ length out = omega (arith, s.room, out-long m piece out₀ hall b count used written out s) in
           let place : written + report_length - report_length ≡ written = omega arith in
@@ -177,8 +180,7 @@ module _ (m : Monitor) (piece out₀ : List ℕ) (hall : Hall) (b jets turned-je
             loop-goes m piece out₀ hall b count used written out s next b told full calm-turned refl,
             record {
               calm = calm;
-              plain = c.plain ∙ ap mapped_words map;
-              turned = (c.turned.0 ∙ ap (λ (x : List Masks). turned_words (mapped_words x)) map, rw map at c.turned.1);
+              jets_of = rw (← map) c.jets_of;
               none = c.none;
               told = omega arith;
               before =
@@ -190,7 +192,7 @@ module _ (m : Monitor) (piece out₀ : List ℕ) (hall : Hall) (b jets turned-je
   -- a minor one
   pub calm_goes : passes_at hall used piece ≡ true → (o : List ℕ) → o ≡ told_again (hall.n + 1) lent
       → Loops m piece out₀ (onward hall) b count (used + minor_length) (written + report_length) (put_mid last (length out - last) out o)
-      × Calmed (onward hall) jets turned-jets count (written + report_length) (put_mid last (length out - last) out o)
+      × Calmed (onward hall) jets count (written + report_length) (put_mid last (length out - last) out o)
   calm_goes pass o e =
       let p = tested-long (passes hall) minor_length used piece pass in
       let l : List ℕ = take minor_length (drop used piece) in
@@ -204,7 +206,7 @@ module _ (m : Monitor) (piece out₀ : List ℕ) (hall : Hall) (b jets turned-je
   major-told : major_passes_at hall used piece ≡ true → (o : List ℕ) → o ≡ told_kept (kept_after hall used piece) lent
       → Loops m piece out₀ (kept_after hall used piece) b count (used + major_length) (written + report_length)
       (put_mid last (length out - last) out o)
-      × Calmed (kept_after hall used piece) jets turned-jets count (written + report_length) (put_mid last (length out - last) out o)
+      × Calmed (kept_after hall used piece) jets count (written + report_length) (put_mid last (length out - last) out o)
   unfolding kept_all
   major-told pass o e =
       let p = tested-long (major_passes hall) major_length used piece pass in
@@ -218,20 +220,17 @@ module _ (m : Monitor) (piece out₀ : List ℕ) (hall : Hall) (b jets turned-je
       (ap (λ (r : List ℕ). rebanked after.banks (renumbered after.n r)) lent-before ∙ report-kept (quantities_of l) hall))
 
   -- by what the shortcut leaves
-  module _ (r : Kept) (e : r ≡ kept_by (major_passes_at hall used piece) hall used piece) (yes : r.yes ≡ true) where
-    passed : major_passes_at hall used piece ≡ true
-    passed = sym (ap (λ (x : Kept). x.yes) e) ∙ yes
+  module _ (after : Hall) (e : Some after ≡ kept_by (major_passes_at hall used piece) hall used piece) where
+    passed : (major_passes_at hall used piece ≡ true) × (after ≡ kept_after hall used piece)
+    passed = kept-some (major_passes_at hall used piece) hall after used piece e
 
     pub major-there : major_length ≤ length piece - used
-    major-there = (tested-long (major_passes hall) major_length used piece passed).0
+    major-there = (tested-long (major_passes hall) major_length used piece passed.0).0
 
-    pub major-goes : (o : List ℕ) → o ≡ cond r.yes (told_kept r.hall lent) lent
-        → Loops m piece out₀ r.hall b count (used + major_length) (written + report_length) (put_mid last (length out - last) out o)
-        × Calmed r.hall jets turned-jets count (written + report_length) (put_mid last (length out - last) out o)
-    major-goes o z =
-        let after : r.hall ≡ kept_after hall used piece =
-        ap (λ (x : Kept). x.hall) e ∙ ap (λ (t : Bool). cond t (kept_after hall used piece) hall) passed in
-        rw after (major-told passed o (z ∙ ap₂ (λ (t : Bool) (h : Hall). cond t (told_kept h lent) lent) yes after))
+    pub major-goes : (o : List ℕ) → o ≡ told_kept after lent
+        → Loops m piece out₀ after b count (used + major_length) (written + report_length) (put_mid last (length out - last) out o)
+        × Calmed after jets count (written + report_length) (put_mid last (length out - last) out o)
+    major-goes o z = rw passed.1 (major-told passed.0 o (z ∙ ap (λ (h : Hall). told_kept h lent) passed.1))
 
 -- ---- after any other record
 
@@ -242,45 +241,36 @@ settled-report : (t : Bool) (h : Hall) (s : Stop) (used : ℕ) (out : List ℕ) 
 settled-report true h s used out c e w = rw e refl
 settled-report false h s used out c e w = not-both false (ap (λ (x : Result). writes_report x.outcome.answer) (sym e) ∙ w) refl
 
--- what the test for what can follow it says
-abbrev chosen : Bool → Hall → Calm
-chosen t h =
-    cond t (record { yes = true; jets = mapped_words h.masks; turned = turned_words (mapped_words h.masks) })
-    (record { yes = false; jets = replicate string_count 0; turned = replicate string_count 0 })
-
-after-yes : (a : Answer) (count : ℕ) (h : Hall) → (calm_after a count h).yes ≡ true
-    → ((is_taken a && (eqb count 0 && all_calm string_count h.strings)) ≡ true)
-    × ((calm_after a count h).jets ≡ mapped_words h.masks)
-    × ((calm_after a count h).turned ≡ turned_words (mapped_words h.masks))
+-- where calm records can follow it, it was taken, and left nothing
+after-some : (a : Answer) (count : ℕ) (h : Hall) (jets : Calm) → Some jets ≡ calm_after a count h
+    → (is_taken a && (eqb count 0 && all_calm string_count h.strings)) ≡ true
 unfolding calm_after
-after-yes a count h = by (is_taken a && (eqb count 0 && all_calm string_count h.strings))
+after-some a count h jets = by (is_taken a && (eqb count 0 && all_calm string_count h.strings)) (record { jets = mapped_words h.masks; turned = turned_words (mapped_words h.masks) })
   where
-    by : (t : Bool) → (chosen t h).yes ≡ true
-        → (t ≡ true) × ((chosen t h).jets ≡ mapped_words h.masks) × ((chosen t h).turned ≡ turned_words (mapped_words h.masks))
-    by true y = (refl, refl, refl)
-    by false y = not-both false y refl
+    by : (t : Bool) (x : Calm) → Some jets ≡ cond t (Some x) None → t ≡ true
+    by true x e = refl
+    by false x e = let z : ◌≡◌ {A = ℕ} 0 1 = cc in absurd (omega arith)
 
-pub calm-left : (m : Monitor) (piece out : List ℕ) (used written : ℕ) (r : Turned) (b o front : List ℕ) → length front ≡ written
-    → Turns (called m piece out) used r b o → r.settled ≡ true → (calm_after r.answer r.count r.hall).yes ≡ true
-    → Words (mapped_words r.hall.masks)
-    → Calmed r.hall (calm_after r.answer r.count r.hall).jets (calm_after r.answer r.count r.hall).turned
-    r.count (written + report_length) (front ++ o)
+calm-some : (m : Monitor) (piece out : List ℕ) (used written : ℕ) (r : Turned) (a : Answer) (b o front : List ℕ) → length front ≡ written
+    → Turns (called m piece out) used r b o → r.answer ≡ Some a → (jets : Calm) → Some jets ≡ calm_after a r.count r.hall → CalmOf r.hall jets
+    → Calmed r.hall jets r.count (written + report_length) (front ++ o)
 unfolding called
-calm-left m piece out used written r b o front long t settled y w =
-    let told = after-yes r.answer r.count r.hall y in
-    let rest = and_right (is_taken r.answer) _ told.0 in
-    let taken : r.answer ≡ Taken = taken-only r.answer (and_left (is_taken r.answer) _ told.0) in
+calm-some m piece out used written r a b o front long t settled jets y w =
+    let told = after-some a r.count r.hall jets y in
+    let rest = and_right (is_taken a) _ told in
+    let taken : a ≡ Taken = taken-only a (and_left (is_taken a) _ told) in
     let s : Stop = reads (holds m) piece in
+    let answered : (called m piece out).outcome.answer ≡ Taken
+    = sym t.answer ∙ ap (λ (x : Option Answer). unwrap_or x NothingSettled) settled ∙ taken in
     let report : o ≡ report_of Taken r.hall ++ drop report_length out =
     t.outbox
     ∙ settled-report (settles (look s.left)) m.hall s (length piece - length s.rest) out (called m piece out) refl
-    (sym t.settled ∙ settled)
-    ∙ ap₂ (λ (a : Answer) (h : Hall). report_of a h ++ drop report_length out) (sym t.answer ∙ taken) (sym t.hall) in
+    (sym t.settled ∙ ap is_some settled)
+    ∙ ap₂ (λ (a : Answer) (h : Hall). report_of a h ++ drop report_length out) answered (sym t.hall) in
     let place : written + report_length - report_length ≡ written = omega arith in
     record {
       calm = and_right (eqb r.count 0) _ rest;
-      plain = told.1;
-      turned = (told.2, w);
+      jets_of = w;
       none = eqb-true r.count 0 (and_left (eqb r.count 0) _ rest);
       told = omega arith;
       before =
@@ -288,3 +278,12 @@ calm-left m piece out used written r b o front long t settled y w =
           ∙ ap (take report_length) (drop_at front o written long ∙ report)
           ∙ take_at (report_of Taken r.hall) _ report_length (report-length Taken r.hall);
     }
+
+-- what is carried on behind it
+pub calm-left : (m : Monitor) (piece out : List ℕ) (used written : ℕ) (r : Turned) (a : Answer) (b o front : List ℕ) → length front ≡ written
+    → Turns (called m piece out) used r b o → r.answer ≡ Some a
+    → (calm : Option Calm) → calm ≡ calm_after a r.count r.hall → IfSome calm (CalmOf r.hall)
+    → IfSome calm (λ jets. Calmed r.hall jets r.count (written + report_length) (front ++ o))
+calm-left m piece out used written r a b o front long t settled None y w = tt
+calm-left m piece out used written r a b o front long t settled (Some jets) y w =
+    calm-some m piece out used written r a b o front long t settled jets y w

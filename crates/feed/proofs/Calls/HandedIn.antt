@@ -46,7 +46,7 @@ use Rattle.feed.proofs.Answers.Left.{call-leaves}
 -- it is the one before, or the one that the settled record steps it to
 pub data HallAfter (m : Monitor) (piece : List ℕ) (c : Result) : Type 0 where
   same : c.outcome.monitor.hall ≡ m.hall → is_taken c.outcome.answer ≡ false → HallAfter m piece c
-  stepped-to : (x : Stepped) → x ≡ stepped (values_in (holds m ++ piece)) m.hall → c.outcome.monitor.hall ≡ x.hall
+  stepped-to : (x : Stepped Hall) → x ≡ stepped (values_in (holds m ++ piece)) m.hall → c.outcome.monitor.hall ≡ x.hall
       → c.outcome.answer ≡ x.answer → HallAfter m piece c
 
 hall-by : (m : Monitor) (piece out : List ℕ) (c : Result) → CallCase m piece out c → HallAfter m piece c
@@ -65,7 +65,7 @@ kept_by_lem : (P : Hall → Type 0) (m : Monitor) (piece : List ℕ) (c : Result
     → ((h : Hall) → P h → P (stepped (values_in (holds m ++ piece)) h).hall) → P m.hall
     → HallAfter m piece c → P c.outcome.monitor.hall
 kept_by_lem P m piece c keeps p (same e t) = subst P (sym e) p
-kept_by_lem P m piece c keeps p (stepped-to x e h a) = subst P (sym (h ∙ ap (λ (y : Stepped). y.hall) e)) (keeps m.hall p)
+kept_by_lem P m piece c keeps p (stepped-to x e h a) = subst P (sym (h ∙ ap (λ (y : Stepped Hall). y.hall) e)) (keeps m.hall p)
 
 -- ---- proper halls
 
@@ -91,25 +91,25 @@ module _ (m : Monitor) (piece out : List ℕ) (p : ProperHall m.hall) (t : (call
   heard j = jet_heard s i j (record { n = after.n; bytes = record_in (holds m ++ piece) })
 
   -- the record that was taken, and the hall that it led to
-  taken_step : (x : Stepped) × (x ≡ stepped (values_in (holds m ++ piece)) m.hall) × (after ≡ x.hall)
+  taken_step : (x : Stepped Hall) × (x ≡ stepped (values_in (holds m ++ piece)) m.hall) × (after ≡ x.hall)
       × (is_taken x.answer ≡ true)
   taken_step = by (hall-after m piece out)
     where
       by : HallAfter m piece (call m piece out)
-          → (x : Stepped) × (x ≡ stepped (values_in (holds m ++ piece)) m.hall) × (after ≡ x.hall) × (is_taken x.answer ≡ true)
+          → (x : Stepped Hall) × (x ≡ stepped (values_in (holds m ++ piece)) m.hall) × (after ≡ x.hall) × (is_taken x.answer ≡ true)
       by (same e f) = not-both true refl (ap is_taken (sym t) ∙ f)
       by (stepped-to x e h a) = (x, e, h, ap is_taken (sym a ∙ t))
 
-  stepping : Stepped
+  stepping : Stepped Hall
   stepping = stepped (values_in (holds m ++ piece)) m.hall
 
   led-to : after ≡ stepping.hall
   unfolding stepping
-  led-to = taken_step.2 ∙ ap (λ (x : Stepped). x.hall) taken_step.1
+  led-to = taken_step.2 ∙ ap (λ (x : Stepped Hall). x.hall) taken_step.1
 
   is-taken : is_taken stepping.answer ≡ true
   unfolding stepping
-  is-taken = sym (ap (λ (x : Stepped). is_taken x.answer) taken_step.1) ∙ taken_step.3
+  is-taken = sym (ap (λ (x : Stepped Hall). is_taken x.answer) taken_step.1) ∙ taken_step.3
 
   -- the record's values are what is heard
   as-heard : (j : ℕ) → j < jet_count → jet_record stepping.hall.n s i j (values_in (holds m ++ piece)) ≡ heard j

@@ -1,5 +1,5 @@
 -- A run over a piece is repeated calls: what its loop keeps from turn to turn. Assumes nothing.
-use Rattle.std.proofs.Common.{◌≡◌, ℕ, suc, ◌+◌, ◌-◌, ◌<◌, ◌≤◌, true, false, List, [], ◌++◌, length, take, drop, sym, refl, ap, ◌∙◌, ap₂, append_assoc, append-nil, add-zero, add_assoc, zero-add, arith, length-append, length-drop, drop_of_length-le, length-take-le, drop-drop, take_at, drop_at}
+use Rattle.std.proofs.Common.{◌≡◌, ℕ, suc, ◌+◌, ◌-◌, ◌<◌, ◌≤◌, true, false, is_some, List, [], ◌++◌, length, take, drop, sym, refl, ap, ◌∙◌, ap₂, append_assoc, append-nil, add-zero, add_assoc, zero-add, arith, length-append, length-drop, drop_of_length-le, length-take-le, drop-drop, take_at, drop_at}
 use borrow.Rule.Slice.PartMut.{put_mid}
 use Rattle.cycle.specs.Answers.{writes_report}
 use Rattle.cycle.specs.declared.hall.Hall.{Hall}
@@ -115,18 +115,18 @@ module _ (m : Monitor) (piece out₀ : List ℕ) (hall : Hall) (b : List ℕ) (c
     turned : Turns (called (monitor_at hall b count) (drop used piece) (drop written out)) used r b' o
     turned = rw in_order at t
 
-    answered : r.settled ≡ writes_report c.outcome.answer
-    answered = turned.settled ∙ ap (λ (x : Outcome). writes_report x.answer) wrote.outcome
+    answered : is_some r.answer ≡ writes_report c.outcome.answer
+    answered = turned.settled ∙ ap (λ (x : Outcome Monitor). writes_report x.answer) wrote.outcome
 
     used-next : r.used ≡ used + c.outcome.used
-    used-next = turned.used ∙ ap (λ (x : Outcome). used + x.used) wrote.outcome
+    used-next = turned.used ∙ ap (λ (x : Outcome Monitor). used + x.used) wrote.outcome
 
     monitor-next : monitor_at r.hall b' r.count ≡ c.outcome.monitor
     monitor-next =
         let there : monitor_at r.hall b' r.count
         ≡ (called (monitor_at hall b count) (drop used piece) (drop written out)).outcome.monitor =
         λ i. record { hall = turned.hall i; held = turned.held i; count = turned.count i } in
-        there ∙ ap (λ (x : Outcome). x.monitor) wrote.outcome
+        there ∙ ap (λ (x : Outcome Monitor). x.monitor) wrote.outcome
 
     used-fits : r.used ≤ length piece
     unfolding c
@@ -149,7 +149,7 @@ module _ (m : Monitor) (piece out₀ : List ℕ) (hall : Hall) (b : List ℕ) (c
         most-next
 
     -- nothing was settled
-    pub loop-leaves : r.settled ≡ false
+    pub loop-leaves : is_some r.answer ≡ false
         → RanBy (runs (length out₀) m piece) out₀
         (record { used = r.used; written = written; more = false; monitor = monitor_at r.hall b' r.count }) (take written out ++ o)
     unfolding c
@@ -170,7 +170,7 @@ module _ (m : Monitor) (piece out₀ : List ℕ) (hall : Hall) (b : List ℕ) (c
         })
 
     -- a record was settled and reported
-    pub loop-goes : r.settled ≡ true
+    pub loop-goes : is_some r.answer ≡ true
         → Loops m piece out₀ r.hall b' r.count r.used (written + report_length) (take written out ++ o)
     unfolding c
     loop-goes e =

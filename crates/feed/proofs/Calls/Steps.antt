@@ -11,8 +11,8 @@ use Rattle.cycle.specs.declared.answer.Answer.TheVariants.{Taken, BothWays}
 use Rattle.cycle.specs.declared.hall.Hall.{Hall}
 use Rattle.cycle.specs.declared.hall.Stepped.{Stepped}
 use Rattle.cycle.specs.declared.number.Next.{Next}
-use Rattle.cycle.specs.declared.number.Verdict.{Verdict}
-use Rattle.cycle.specs.declared.number.Verdict.TheVariants.{Takes, Refuses}
+use Rattle.cycle.specs.Numbers.{Verdict}
+use Rattle.std.specs.Prelude.{Ok, Err}
 use Rattle.cycle.proofs.Verdicts.{verdict-refused, verdict-named, verdict-takes, verdict-refuses, refusal-reported}
 use Rattle.feed.specs.Size.{minor_length, major_length, major_mark, wire_at}
 use Rattle.feed.specs.Bytes.{two}
@@ -76,7 +76,7 @@ unfolding step_of
 step-whole r h e = rw e
 
 -- in halves: refused, or taken as far as both kinds go and then, if it is major, the rest
-abbrev pub stepped_to : Answer → Hall → Stepped
+abbrev pub stepped_to : Answer → Hall → Stepped Hall
 stepped_to a h = record { answer = a; hall = h }
 
 module _ (r : List ℕ) (h : Hall) (whole : is_whole r ≡ true) where
@@ -94,16 +94,16 @@ module _ (r : List ℕ) (h : Hall) (whole : is_whole r ≡ true) where
   unfolding stepped
   stepped_by_lem v e = ap (λ (x : Verdict). stepped_by x (values_of r) h) (sym e) ∙ sym (step-whole r h whole)
 
-  pub half-refused : (a : Answer) → by_number ≡ Refuses a → stepped_to a h ≡ step_of r h
-  half-refused a e = stepped_by_lem (Refuses a) (verdict-refused h.n h.masks (values_of r) a (same_number ∙ e))
+  pub half-refused : (a : Answer) → by_number ≡ Err a → stepped_to a h ≡ step_of r h
+  half-refused a e = stepped_by_lem (Err a) (verdict-refused h.n h.masks (values_of r) a (same_number ∙ e))
 
-  pub half-both-ways : (next : Next) → by_number ≡ Takes next → record_both_ways h.masks (values_of r) ≡ true
+  pub half-both-ways : (next : Next) → by_number ≡ Ok next → record_both_ways h.masks (values_of r) ≡ true
       → stepped_to BothWays h ≡ step_of r h
-  half-both-ways next e b = stepped_by_lem (Refuses BothWays) (verdict-named h.n h.masks (values_of r) next (same_number ∙ e) b)
+  half-both-ways next e b = stepped_by_lem (Err BothWays) (verdict-named h.n h.masks (values_of r) next (same_number ∙ e) b)
 
-  module _ (next : Next) (e : by_number ≡ Takes next) (b : record_both_ways h.masks (values_of r) ≡ false) where
+  module _ (next : Next) (e : by_number ≡ Ok next) (b : record_both_ways h.masks (values_of r) ≡ false) where
     half-taken : stepped_to Taken (taken (values_of r) next h) ≡ step_of r h
-    half-taken = stepped_by_lem (Takes next) (verdict-takes h.n h.masks (values_of r) next (same_number ∙ e) b)
+    half-taken = stepped_by_lem (Ok next) (verdict-takes h.n h.masks (values_of r) next (same_number ∙ e) b)
 
     pub half-minor : is_major ≡ false → stepped_to Taken (minor_taken (minor_of r) next h) ≡ step_of r h
     unfolding values_of taken
@@ -119,8 +119,8 @@ unfolding stepped
 stepped-reports r h = by (verdict_on h.n h.masks r) refl
   where
     by : (v : Verdict) → verdict_on h.n h.masks r ≡ v → writes_report (stepped_by v r h).answer ≡ true
-    by (Takes next) e = refl
-    by (Refuses a) e = refusal-reported (verdict-refuses h.n h.masks r a e)
+    by (Ok next) e = refl
+    by (Err a) e = refusal-reported (verdict-refuses h.n h.masks r a e)
 
 pub step-reports : (r : List ℕ) (h : Hall) → is_whole r ≡ true → writes_report (step_of r h).answer ≡ true
 step-reports r h e = rw (step-whole r h e) (stepped-reports (values_of r) h)

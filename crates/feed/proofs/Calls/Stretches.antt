@@ -1,32 +1,20 @@
 -- Calm minor records one after the other, up to the next major cycle: what the run's inner loop keeps, so that no record is asked for its
 -- kind, its length or the room for its report. Assumes nothing.
-use Rattle.std.proofs.Common.{◌≡◌, ℕ, ◌+◌, ◌-◌, ◌*◌, ◌/◌, ◌%◌, ◌<◌, ◌≤◌, Bool, true, false, cond, ltb, List, length, take, drop, sym, refl, ◌∙◌, arith, ltb-false, ltb-true, ne_eqb}
+use Rattle.std.proofs.Common.{◌≡◌, ℕ, ◌+◌, ◌-◌, ◌*◌, ◌/◌, ◌%◌, ◌<◌, ◌≤◌, min, Bool, true, false, cond, ltb, List, length, take, drop, sym, refl, ◌∙◌, arith, ltb-false, ne_eqb}
+use Rattle.std.proofs.Math.Nat.{min-le_left, min-le_right}
 use borrow.Rule.Slice.PartMut.{put_mid}
 use Rattle.cycle.specs.Size.{major_every, last_count}
 use Rattle.cycle.specs.Numbers.{is_major}
 use Rattle.cycle.specs.Calm.{onward}
 use Rattle.cycle.specs.declared.hall.Hall.{Hall}
 use Rattle.feed.specs.Size.{minor_length, report_length, outbox_needed}
-use Rattle.feed.specs.Inside.Calm.{least, minors_ahead, stretch, passes_at, told_again}
+use Rattle.feed.specs.Inside.Calm.{minors_ahead, stretch, passes_at, told_again}
+use Rattle.feed.specs.declared.calm.Calm.{Calm}
 use Rattle.feed.specs.declared.call.Monitor.{Monitor}
 use Rattle.feed.proofs.Calls.Running.{Loops, out-long}
 use Rattle.feed.proofs.Calls.CalmRuns.{Calmed, calm_goes}
 
 -- ---- how many there are at the most
-
-least-left : (a b : ℕ) → least a b ≤ a
-least-left a b = by (ltb a b) refl
-  where
-    by : (t : Bool) → ltb a b ≡ t → cond t a b ≤ a
-    by true e = omega arith
-    by false e = ltb-false a b e
-
-least-right : (a b : ℕ) → least a b ≤ b
-least-right a b = by (ltb a b) refl
-  where
-    by : (t : Bool) → ltb a b ≡ t → cond t a b ≤ b
-    by true e = let l = ltb-true a b e in omega arith
-    by false e = omega arith
 
 -- all of them are minor cycles, and the count does not end before
 pub record Ahead (n left : ℕ) : Type 0 where
@@ -54,9 +42,9 @@ module _ (n fed room : ℕ) where
   unfolding stretch
   stretch-ahead = by (ltb room outbox_needed)
     where
-      by : (t : Bool) → Ahead n (cond t 0 (least (minors_ahead n) (least (fed / minor_length) ((room - outbox_needed) / report_length))))
+      by : (t : Bool) → Ahead n (cond t 0 (min (minors_ahead n) (min (fed / minor_length) ((room - outbox_needed) / report_length))))
       by true = fewer-ahead n (minors_ahead n) 0 (minors-ahead n) (omega arith)
-      by false = fewer-ahead n (minors_ahead n) _ (minors-ahead n) (least-left (minors_ahead n) _)
+      by false = fewer-ahead n (minors_ahead n) _ (minors-ahead n) (min-le_left (minors_ahead n) _)
 
   -- the bytes are there, and the room, and that of one report more
   pub stretch-fits : outbox_needed ≤ room
@@ -65,14 +53,15 @@ module _ (n fed room : ℕ) where
   stretch-fits h = by (ltb room outbox_needed)
     where
       most : Bool → ℕ
-      most t = cond t 0 (least (minors_ahead n) (least (fed / minor_length) ((room - outbox_needed) / report_length)))
+      most t = cond t 0 (min (minors_ahead n) (min (fed / minor_length) ((room - outbox_needed) / report_length)))
 
       by : (t : Bool) → (minor_length * most t ≤ fed) × (report_length * most t + outbox_needed ≤ room)
       by true = (omega arith, omega arith)
       by false =
-          let inner = least-right (minors_ahead n) (least (fed / minor_length) ((room - outbox_needed) / report_length)) in
-          let a = least-left (fed / minor_length) ((room - outbox_needed) / report_length) in
-          let b = least-right (fed / minor_length) ((room - outbox_needed) / report_length) in
+          let reports = (room - outbox_needed) / report_length in
+          let inner = min-le_right (minors_ahead n) (min (fed / minor_length) reports) in
+          let a = min-le_left (fed / minor_length) reports in
+          let b = min-le_right (fed / minor_length) reports in
           (omega arith, omega arith)
 
 -- the first of them
@@ -92,22 +81,22 @@ module _ (n left : ℕ) (x : Ahead n left) (some : 0 < left) where
 
 -- ---- the inner loop
 
-pub record Stretching (piece b jets turned-jets : List ℕ) (count : ℕ) (hall₀ : Hall) (used₀ written₀ : ℕ) (out₀ : List ℕ) (hall : Hall)
+pub record Stretching (piece b : List ℕ) (jets : Calm) (count : ℕ) (hall₀ : Hall) (used₀ written₀ : ℕ) (out₀ : List ℕ) (hall : Hall)
     (used written : ℕ) (out : List ℕ) (left : ℕ) : Type 0 where
   -- what the outer loop keeps is kept
   pub loops : (m : Monitor) (outs : List ℕ) → Loops m piece outs hall₀ b count used₀ written₀ out₀
       → Loops m piece outs hall b count used written out
-  pub calmed : Calmed hall jets turned-jets count written out
+  pub calmed : Calmed hall jets count written out
   pub on : written₀ ≤ written
   pub ahead : Ahead hall.n left
   pub fed : used + minor_length * left ≤ length piece
   pub room : written + report_length * left + outbox_needed ≤ length out
 
-pub stretch-starts : (piece b jets turned-jets : List ℕ) (count : ℕ) (hall : Hall) (used written : ℕ) (out : List ℕ) (left : ℕ)
-    → Calmed hall jets turned-jets count written out → used ≤ length piece → outbox_needed ≤ length out - written
+pub stretch-starts : (piece b : List ℕ) (jets : Calm) (count : ℕ) (hall : Hall) (used written : ℕ) (out : List ℕ) (left : ℕ)
+    → Calmed hall jets count written out → used ≤ length piece → outbox_needed ≤ length out - written
     → left ≡ stretch hall.n (length piece - used) (length out - written)
-    → Stretching piece b jets turned-jets count hall used written out hall used written out left
-stretch-starts piece b jets turned-jets count hall used written out left c within full e =
+    → Stretching piece b jets count hall used written out hall used written out left
+stretch-starts piece b jets count hall used written out left c within full e =
     let fits = stretch-fits hall.n (length piece - used) (length out - written) full in
     rw e (record {
       loops = λ m outs l. l;
@@ -119,11 +108,11 @@ stretch-starts piece b jets turned-jets count hall used written out left c withi
     })
 
 -- no more of them
-pub stretch-stops : (piece b jets turned-jets : List ℕ) (count : ℕ) (hall₀ : Hall) (used₀ written₀ : ℕ) (out₀ : List ℕ) (hall : Hall)
+pub stretch-stops : (piece b : List ℕ) (jets : Calm) (count : ℕ) (hall₀ : Hall) (used₀ written₀ : ℕ) (out₀ : List ℕ) (hall : Hall)
     (used written : ℕ) (out : List ℕ) (left : ℕ)
-    → Stretching piece b jets turned-jets count hall₀ used₀ written₀ out₀ hall used written out left
-    → Stretching piece b jets turned-jets count hall₀ used₀ written₀ out₀ hall used written out 0
-stretch-stops piece b jets turned-jets count hall₀ used₀ written₀ out₀ hall used written out left x = record {
+    → Stretching piece b jets count hall₀ used₀ written₀ out₀ hall used written out left
+    → Stretching piece b jets count hall₀ used₀ written₀ out₀ hall used written out 0
+stretch-stops piece b jets count hall₀ used₀ written₀ out₀ hall used written out left x = record {
   loops = x.loops;
   calmed = x.calmed;
   on = x.on;
@@ -132,8 +121,8 @@ stretch-stops piece b jets turned-jets count hall₀ used₀ written₀ out₀ h
   room = omega (arith, x.room);
 }
 
-module _ (piece b jets turned-jets : List ℕ) (count : ℕ) (hall₀ : Hall) (used₀ written₀ : ℕ) (out₀ : List ℕ) (hall : Hall) (used written : ℕ)
-    (out : List ℕ) (left : ℕ) (x : Stretching piece b jets turned-jets count hall₀ used₀ written₀ out₀ hall used written out left) where
+module _ (piece b : List ℕ) (jets : Calm) (count : ℕ) (hall₀ : Hall) (used₀ written₀ : ℕ) (out₀ : List ℕ) (hall : Hall) (used written : ℕ)
+    (out : List ℕ) (left : ℕ) (x : Stretching piece b jets count hall₀ used₀ written₀ out₀ hall used written out left) where
   pub stretch-full : outbox_needed ≤ length out - written
   stretch-full = omega (arith, x.room)
 
@@ -146,11 +135,11 @@ module _ (piece b jets turned-jets : List ℕ) (count : ℕ) (hall₀ : Hall) (u
 
     goes : (m : Monitor) (outs : List ℕ) → Loops m piece outs hall b count used written out
         → Loops m piece outs (onward hall) b count (used + minor_length) (written + report_length) after
-        × Calmed (onward hall) jets turned-jets count (written + report_length) after
-    goes m outs s = calm_goes m piece outs hall b jets turned-jets count used written out s x.calmed stretch-full pass o e
+        × Calmed (onward hall) jets count (written + report_length) after
+    goes m outs s = calm_goes m piece outs hall b jets count used written out s x.calmed stretch-full pass o e
 
     pub stretch-goes : (m : Monitor) (outs : List ℕ) → Loops m piece outs hall₀ b count used₀ written₀ out₀
-        → Stretching piece b jets turned-jets count hall₀ used₀ written₀ out₀ (onward hall) (used + minor_length) (written + report_length) after
+        → Stretching piece b jets count hall₀ used₀ written₀ out₀ (onward hall) (used + minor_length) (written + report_length) after
         (left - 1)
     stretch-goes m outs l =
         let now = x.loops m outs l in

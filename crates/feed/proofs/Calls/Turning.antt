@@ -1,21 +1,20 @@
 -- A turn is a call: what is found in the store or in the piece, stepped, removed and reported, is what the definition of a call says.
 -- Assumes nothing.
-use Rattle.std.proofs.Common.{◌≡◌, ℕ, ◌+◌, ◌-◌, ◌≤◌, Bool, true, false, cond, List, [], ◌∷◌, ◌++◌, length, take, drop, sym, refl, ap, ◌∙◌, ap₂, arith, length-drop, drop_of_length-le, length-take, take_all, le-ltb}
+use Rattle.std.proofs.Common.{◌≡◌, ℕ, ◌+◌, ◌-◌, ◌≤◌, Bool, true, false, cond, Option, None, Some, List, [], ◌∷◌, ◌++◌, length, take, drop, sym, refl, ap, ◌∙◌, ap₂, arith, length-drop, drop_of_length-le, length-take, take_all, le-ltb}
 use lib.Seq.{take-append-le}
-use Rattle.cycle.specs.declared.answer.Answer.TheVariants.{NothingSettled}
 use Rattle.cycle.specs.declared.hall.Hall.{Hall}
 use Rattle.cycle.specs.declared.hall.Stepped.{Stepped}
 use Rattle.feed.specs.Size.{store_length, most_held, report_length}
-use Rattle.feed.specs.Format.{look, settles, length_shown}
+use Rattle.feed.specs.Format.{look, settles, length_marked, length_shown, kind_shown}
 use Rattle.feed.specs.Reader.{settle, Stop, reads, store}
-use Rattle.feed.specs.Inside.Finding.{Finds}
+use Rattle.feed.specs.Inside.Finding.{long_of, Finds}
 use Rattle.feed.specs.Step.{is_whole, step_of}
 use Rattle.feed.specs.Report.{report_of}
 use Rattle.feed.specs.Call.{holds, holding, called_by, called}
 use Rattle.feed.specs.Handed.{handed_at}
-use Rattle.feed.specs.Inside.Turn.{found_in, left_count, left_bytes, Turns}
+use Rattle.feed.specs.Inside.Turn.{FitsIn, found_in, left_count, left_bytes, Turns}
 use Rattle.feed.specs.declared.reader.Found.{Found}
-use Rattle.feed.proofs.Records.Lengths.{shown-none, shown-some}
+use Rattle.feed.proofs.Records.Lengths.{shown-none, shown-some, kind-length}
 use Rattle.feed.proofs.Records.Whole.{shown-sized}
 use Rattle.feed.proofs.Reading.Stores.{take-store, length-store, store-drop}
 use Rattle.feed.proofs.Reading.Reads.{reads_short}
@@ -61,28 +60,30 @@ module _ (h piece : List ℕ) (from : ℕ) (f : Found) (kept : List ℕ) (short 
   left-short = reads_short h (drop from piece) (omega arith)
 
   -- the length found tells whether there is a record
-  long_same : f.long ≡ length_shown (look stop.left)
+  long_same : (long_of f) ≡ length_shown (look stop.left)
   unfolding stop
-  long_same = found.long
+  long_same = ap length_marked found.settled ∙ kind-length (look (reads h (drop from piece)).left)
 
   -- nothing was settled: what is left is in the store
-  kept-none : f.long ≡ 0 → (b : Bool) → f.held ≡ b → (f.count ≡ length stop.left) × (kept ≡ store stop.left)
+  kept-none : (long_of f) ≡ 0 → (o : Option ℕ) → f.at ≡ o → (f.count ≡ length stop.left) × (kept ≡ store stop.left)
   unfolding stop
-  kept-none e true q = let x = found.in_store q in (x.1, x.2)
-  kept-none e false q =
-      let x = found.in_piece q in
-      let none : (reads h (drop from piece)).left ≡ [] = x.3 ∙ ap (λ (n : ℕ). take n (drop f.at piece)) e in
+  kept-none e None q = found.in_store q
+  kept-none e (Some i) q =
+      let x = found.in_piece i q in
+      let none : (reads h (drop from piece)).left ≡ [] = x.3 ∙ ap (λ (n : ℕ). take n (drop i piece)) e in
       (x.1 ∙ sym (ap length none), x.2 ∙ sym (ap store none))
 
   -- what a reader by itself hands out: nothing
-  pub handed-none : f.long ≡ 0
-      → record { used = f.used; long = 0; bytes = store []; reader = record { held = kept; count = f.count } }
+  pub handed-none : f.settled ≡ None
+      → record { used = f.used; settled = None; bytes = store []; reader = record { held = kept; count = f.count } }
       ≡ handed_at (reads h (drop from piece)) (from + (length (drop from piece) - length (reads h (drop from piece)).rest))
   unfolding stop taken
   handed-none e =
-      let x = kept-none e f.held refl in
-      let n : length_shown (look (reads h (drop from piece)).left) ≡ 0 = sym long_same ∙ e in
-      rw (n, used-so-far, x.0, x.1)
+      let none : long_of f ≡ 0 = ap length_marked e in
+      let x = kept-none none f.at refl in
+      let n : length_shown (look (reads h (drop from piece)).left) ≡ 0 = sym long_same ∙ none in
+      let k : kind_shown (look (reads h (drop from piece)).left) ≡ None = sym found.settled ∙ e in
+      rw (n, k, used-so-far, x.0, x.1)
 
   -- ---- the call on a monitor that holds h
 
@@ -92,112 +93,116 @@ module _ (h piece : List ℕ) (from : ℕ) (f : Found) (kept : List ℕ) (short 
     unfolding called stop taken
     called-by t e = rw (holds_same hall h short, e)
 
-    pub turn-none : f.long ≡ 0
+    pub turn-none : (long_of f) ≡ 0
         → Turns (called (holding hall h) (drop from piece) out) from
-        (record { settled = false; answer = NothingSettled; hall = hall; count = f.count; used = f.used }) kept out
+        (record { answer = None; hall = hall; count = f.count; used = f.used }) kept out
     turn-none e =
         let c = called-by false (shown-none (look stop.left) (sym long_same ∙ e)) in
-        let x = kept-none e f.held refl in
+        let x = kept-none e f.at refl in
         rw c (record { settled = refl; answer = refl; hall = refl; count = x.0; used = used-so-far; held = x.1; outbox = refl })
 
   -- a record was settled: it is the front of what is left
-  module _ (some : f.long ≡ 0 → ⊥) where
+  module _ (some : (long_of f) ≡ 0 → ⊥) where
     there : settles (look stop.left) ≡ true
     there = shown-some (look stop.left) (rw (sym long_same) (omega arith))
 
-    sized : f.long ≤ length stop.left
+    sized : (long_of f) ≤ length stop.left
     sized = let s = shown-sized stop.left there in let e = long_same in omega arith
 
-    record_same : (b : Bool) → f.held ≡ b → f.long ≤ length stop.left
-        → found_in f.held f.at f.long kept piece ≡ take f.long stop.left
+    record_same : (o : Option ℕ) → f.at ≡ o → (long_of f) ≤ length stop.left
+        → found_in f.at (long_of f) kept piece ≡ take (long_of f) stop.left
     unfolding stop
-    record_same true q l =
+    record_same None q l =
         let x = found.in_store q in
-        rw q (ap (take f.long) x.2 ∙ take-append-le f.long (reads h (drop from piece)).left _ l)
-    record_same false q l =
-        let x = found.in_piece q in
-        let long : length (reads h (drop from piece)).left ≤ f.long = rw x.3 (simp length-take (omega arith)) in
-        rw q (sym x.3 ∙ sym (take_all f.long (reads h (drop from piece)).left long))
+        rw q (ap (take (long_of f)) x.1 ∙ take-append-le (long_of f) (reads h (drop from piece)).left _ l)
+    record_same (Some i) q l =
+        let x = found.in_piece i q in
+        let long : length (reads h (drop from piece)).left ≤ (long_of f) = rw x.3 (simp length-take (omega arith)) in
+        rw q (sym x.3 ∙ sym (take_all (long_of f) (reads h (drop from piece)).left long))
 
-    left-same : (b : Bool) → f.held ≡ b → f.long ≤ length stop.left
-        → (left_count f.held f.long f.count ≡ length (drop f.long stop.left))
-        × (left_bytes f.held f.long f.count kept ≡ store (drop f.long stop.left))
+    left-same : (o : Option ℕ) → f.at ≡ o → (long_of f) ≤ length stop.left
+        → (left_count f.at (long_of f) f.count ≡ length (drop (long_of f) stop.left))
+        × (left_bytes f.at (long_of f) f.count kept ≡ store (drop (long_of f) stop.left))
     unfolding stop
-    left-same true q l =
+    left-same None q l =
         let x = found.in_store q in
         let s : List ℕ = (reads h (drop from piece)).left in
-        let t : take f.count kept ≡ s = take-store s kept f.count (sym x.1) x.2 in
-        let d : drop f.count kept ≡ drop (length s) (store s) = ap₂ (λ (i : ℕ) (m : List ℕ). drop i m) x.1 x.2 in
+        let t : take f.count kept ≡ s = take-store s kept f.count (sym x.0) x.1 in
+        let d : drop f.count kept ≡ drop (length s) (store s) = ap₂ (λ (i : ℕ) (m : List ℕ). drop i m) x.0 x.1 in
         let long : length s ≤ store_length = left-short in
-        rw q (rw x.1 (sym (length-drop f.long s)), rw (t, d) (store-drop s f.long l long))
-    left-same false q l =
-        let x = found.in_piece q in
+        rw q (rw x.0 (sym (length-drop (long_of f) s)), rw (t, d) (store-drop s (long_of f) l long))
+    left-same (Some i) q l =
+        let x = found.in_piece i q in
         let s : List ℕ = (reads h (drop from piece)).left in
-        let long : length s ≤ f.long = rw x.3 (simp length-take (omega arith)) in
-        let none : drop f.long s ≡ [] = drop_of_length-le s {i = f.long} long in
+        let long : length s ≤ (long_of f) = rw x.3 (simp length-take (omega arith)) in
+        let none : drop (long_of f) s ≡ [] = drop_of_length-le s {i = (long_of f)} long in
         rw (q, none) (x.1, x.2)
 
     -- what the functions of a turn ask: the record is there and whole, and within the store
-    pub found-whole : is_whole (found_in f.held f.at f.long kept piece) ≡ true
+    pub found-whole : is_whole (found_in f.at (long_of f) kept piece) ≡ true
     found-whole =
-        ap is_whole (record_same f.held refl sized ∙ ap (λ (n : ℕ). take n stop.left) long_same) ∙ front-whole stop.left there
+        ap is_whole (record_same f.at refl sized ∙ ap (λ (n : ℕ). take n stop.left) long_same) ∙ front-whole stop.left there
 
     pub count_fits : f.count ≤ length kept
     unfolding stop
-    count_fits = by f.held refl
+    count_fits = by f.at refl
       where
-        by : (b : Bool) → f.held ≡ b → f.count ≤ length kept
-        by true q =
+        by : (o : Option ℕ) → f.at ≡ o → f.count ≤ length kept
+        by None q =
             let x = found.in_store q in
             let l = left-short in
-            let s = ap length x.2 ∙ length-store (reads h (drop from piece)).left left-short in
+            let s = ap length x.1 ∙ length-store (reads h (drop from piece)).left left-short in
             omega arith
-        by false q = let x = found.in_piece q in omega arith
+        by (Some i) q = let x = found.in_piece i q in omega arith
 
-    pub held_fits : f.held ≡ true → f.long ≤ f.count
+    pub held_fits : f.at ≡ None → (long_of f) ≤ f.count
     unfolding stop
     held_fits q = let x = found.in_store q in let s = sized in omega arith
 
-    pub found-fits : (f.held ≡ true → f.long ≤ length kept) × (f.held ≡ false → f.at + f.long ≤ length piece)
-    found-fits = (λ q. let a = held_fits q in let b = count_fits in omega arith, λ q. (found.in_piece q).4)
+    pub found-fits : FitsIn f.at (long_of f) kept piece
+    found-fits = by f.at refl
+      where
+        by : (o : Option ℕ) → f.at ≡ o → FitsIn f.at (long_of f) kept piece
+        by None q = let a = held_fits q in let b = count_fits in rw q (omega arith)
+        by (Some i) q = rw q ((found.in_piece i q).4)
 
     -- or the record
-    pub handed-some : (bytes : List ℕ) (left : ℕ) (b : List ℕ) → bytes ≡ store (found_in f.held f.at f.long kept piece)
-        → left ≡ left_count f.held f.long f.count → b ≡ left_bytes f.held f.long f.count kept
-        → record { used = f.used; long = f.long; bytes = bytes; reader = record { held = b; count = left } }
+    pub handed-some : (bytes : List ℕ) (left : ℕ) (b : List ℕ) → bytes ≡ store (found_in f.at (long_of f) kept piece)
+        → left ≡ left_count f.at (long_of f) f.count → b ≡ left_bytes f.at (long_of f) f.count kept
+        → record { used = f.used; settled = f.settled; bytes = bytes; reader = record { held = b; count = left } }
         ≡ handed_at (reads h (drop from piece)) (from + (length (drop from piece) - length (reads h (drop from piece)).rest))
     unfolding stop taken
     handed-some bytes left b ex el eb =
-        let k = left-same f.held refl sized in
-        let v = ex ∙ ap store (record_same f.held refl sized) in
-        rw (← long_same, used-so-far, v, el ∙ k.0, eb ∙ k.1)
+        let k = left-same f.at refl sized in
+        let v = ex ∙ ap store (record_same f.at refl sized) in
+        rw (← long_same, ← found.settled, used-so-far, v, el ∙ k.0, eb ∙ k.1)
 
     -- which fits into a store
-    pub record-short : length (found_in f.held f.at f.long kept piece) ≤ store_length
+    pub record-short : length (found_in f.at (long_of f) kept piece) ≤ store_length
     record-short =
-        let e = record_same f.held refl sized in
+        let e = record_same f.at refl sized in
         let l = left-short in
         rw e (simp length-take (omega arith))
 
     module _ (hall : Hall) (out : List ℕ) where
-      pub turn-some : (x : Stepped) (left : ℕ) (b o : List ℕ)
-          → x ≡ step_of (found_in f.held f.at f.long kept piece) hall
-          → left ≡ left_count f.held f.long f.count → b ≡ left_bytes f.held f.long f.count kept
+      pub turn-some : (x : Stepped Hall) (left : ℕ) (b o : List ℕ)
+          → x ≡ step_of (found_in f.at (long_of f) kept piece) hall
+          → left ≡ left_count f.at (long_of f) f.count → b ≡ left_bytes f.at (long_of f) f.count kept
           → o ≡ report_of x.answer x.hall ++ drop report_length out
           → Turns (called (holding hall h) (drop from piece) out) from
-          (record { settled = true; answer = x.answer; hall = x.hall; count = left; used = f.used }) b o
+          (record { answer = Some x.answer; hall = x.hall; count = left; used = f.used }) b o
       turn-some x left b o ex el eb eo =
           let w = found-whole in
-          let r = record_same f.held refl sized in
-          let s : x ≡ step_of (take f.long stop.left) hall = ex ∙ ap (λ (l : List ℕ). step_of l hall) r in
-          let k = left-same f.held refl sized in
+          let r = record_same f.at refl sized in
+          let s : x ≡ step_of (take (long_of f) stop.left) hall = ex ∙ ap (λ (l : List ℕ). step_of l hall) r in
+          let k = left-same f.at refl sized in
           rw (called-by hall out true there, ← long_same)
           (record {
-            settled = sym (step-reports (take f.long stop.left) hall (sym (ap is_whole r) ∙ w));
-            answer = ap (λ (y : Stepped). y.answer) s;
-            hall = ap (λ (y : Stepped). y.hall) s;
+            settled = sym (step-reports (take (long_of f) stop.left) hall (sym (ap is_whole r) ∙ w));
+            answer = ap (λ (y : Stepped Hall). y.answer) s;
+            hall = ap (λ (y : Stepped Hall). y.hall) s;
             count = el ∙ k.0;
             used = used-so-far;
             held = eb ∙ k.1;
-            outbox = eo ∙ ap (λ (y : Stepped). report_of y.answer y.hall ++ drop report_length out) s;
+            outbox = eo ∙ ap (λ (y : Stepped Hall). report_of y.answer y.hall ++ drop report_length out) s;
           })

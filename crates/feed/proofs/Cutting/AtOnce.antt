@@ -16,7 +16,7 @@ use Rattle.feed.proofs.Reading.Settling.{settle-append, settle-found}
 use Rattle.feed.proofs.Reading.Fronts.{settle-short}
 
 -- the hall's step on the first record of l
-abbrev pub step_on : Hall → List ℕ → Stepped
+abbrev pub step_on : Hall → List ℕ → Stepped Hall
 step_on h l = stepped (values_in l) h
 
 -- from the hall h over the bytes l: the reports that answer 0, the hall at the end, and the bytes that still wait
@@ -81,10 +81,10 @@ at-once-append {h = h} {f = f} {a = a} {v = v} {os = os} q (steps {rs = rs} z b 
     let i : AtOnce (step_on h a).hall (behind_in a ++ q) (rs ++ os) f v = at-once-append q b d in
     steps x.there
     (subst (λ (t : List ℕ). AtOnce (step_on h (a ++ q)).hall t (rs ++ os) f v) (sym x.behind)
-    (subst (λ (y : Stepped). AtOnce y.hall (behind_in a ++ q) (rs ++ os) f v) (sym s) i))
+    (subst (λ (y : Stepped Hall). AtOnce y.hall (behind_in a ++ q) (rs ++ os) f v) (sym s) i))
     (ap (λ (t : List (List ℕ)). t ++ os) r
     ∙ append_assoc (report_taken (step_on h a)) rs os
-    ∙ ap (λ (y : Stepped). report_taken y ++ (rs ++ os)) (sym s))
+    ∙ ap (λ (y : Stepped Hall). report_taken y ++ (rs ++ os)) (sym s))
 
 -- ---- every feed comes to an end
 

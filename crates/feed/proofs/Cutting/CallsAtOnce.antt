@@ -25,7 +25,7 @@ use Rattle.feed.proofs.Cutting.AtOnce.{AtOnce, steps, step_on, at-once-same, ahe
 abbrev told : Result → List (List ℕ)
 told c = cond (is_taken c.outcome.answer) (take report_length c.outbox ∷ []) []
 
-told-step : (x : Stepped) (out : List ℕ)
+told-step : (x : Stepped Hall) (out : List ℕ)
     → cond (is_taken x.answer) (take report_length (report_of x.answer x.hall ++ out) ∷ []) [] ≡ report_taken x
 told-step x out =
     ap (λ (l : List ℕ). cond (is_taken x.answer) (l ∷ []) [])

@@ -9,8 +9,8 @@ use Rattle.cycle.specs.declared.answer.Answer.TheVariants.{Stale, Repeat}
 use Rattle.cycle.specs.declared.hall.Hall.{Hall}
 use Rattle.cycle.specs.declared.hall.Stepped.{Stepped}
 use Rattle.cycle.specs.declared.map.Masks.{Masks}
-use Rattle.cycle.specs.declared.number.Verdict.{Verdict}
-use Rattle.cycle.specs.declared.number.Verdict.TheVariants.{Refuses}
+use Rattle.cycle.specs.Numbers.{Verdict}
+use Rattle.std.specs.Prelude.{Err}
 use Rattle.cycle.proofs.Numbers.{judged-repeat, judged-stale}
 use Rattle.cycle.proofs.Verdicts.{verdict-refused}
 use Rattle.feed.specs.Values.{values_of}
@@ -28,13 +28,13 @@ use Rattle.feed.proofs.Cutting.FeedEnds.{last-idle, finished-at-once}
 
 -- ---- a stale or repeated record changes nothing
 
-refused-step : (h : Hall) (r : Record) (a : Answer) → judged h.n (common r).wire (major_kind r) ≡ Refuses a
+refused-step : (h : Hall) (r : Record) (a : Answer) → judged h.n (common r).wire (major_kind r) ≡ Err a
     → stepped r h ≡ record { answer = a; hall = h }
 unfolding stepped
 refused-step h r a e = ap (λ (v : Verdict). stepped_by v r h) (verdict-refused h.n h.masks r a e)
 
 -- no step, and no report that answers 0
-abbrev Idles : Hall → Stepped → Type 0
+abbrev Idles : Hall → Stepped Hall → Type 0
 Idles h x = (x.hall ≡ h) × (report_taken x ≡ [])
 
 old-idles : (h : Hall) (r : List ℕ) → Old h.n r → Idles h (stepped (values_of r) h)

@@ -1,12 +1,12 @@
 -- What the reader finds: by way of the store as long as older bytes are held, and else in the piece. Assumes nothing.
-use Rattle.std.proofs.Common.{◌≡◌, ℕ, ◌+◌, ◌-◌, ◌≤◌, Bool, true, false, not, ◌&&◌, ltb, leb, List, [], ◌++◌, length, take, drop, replicate, sym, refl, ap, ◌∙◌, subst, ap₂, arith, length-append, length-drop, length-take, length-take-le, drop-drop, ltb-false, ltb-true, le-leb}
+use Rattle.std.proofs.Common.{◌≡◌, ℕ, ◌+◌, ◌-◌, ◌≤◌, Bool, true, false, ◌&&◌, None, Some, is_some, ltb, leb, List, [], ◌++◌, length, take, drop, replicate, sym, refl, ap, ◌∙◌, subst, ap₂, arith, length-append, length-drop, length-take, length-take-le, drop-drop, ltb-false, ltb-true, le-leb}
 use borrow.Author.Tests.{lt-leb}
-use Rattle.bits.proofs.Yes.{not-both, and-true, and-false}
+use Rattle.bits.proofs.Yes.{and-true, and-false}
 use Rattle.feed.specs.Size.{store_length}
 use Rattle.feed.specs.Reader.{reads, store, Stop}
 use Rattle.feed.specs.Inside.Finding.{fills, found_by, filled, FoundAt, alone, reads_on, Searched, Finds}
 use Rattle.feed.specs.declared.reader.Found.{Found}
-use Rattle.feed.proofs.Records.Lengths.{by-test}
+use Rattle.feed.proofs.Records.Lengths.{by-test, not-some, same-some}
 use Rattle.feed.proofs.Reading.Fronts.{settle-short}
 use Rattle.feed.proofs.Reading.Stores.{store-fits, store_cleared}
 use Rattle.feed.proofs.Reading.Reads.{reads_whole}
@@ -83,15 +83,15 @@ module _ (h piece : List ℕ) (from : ℕ) (w : from ≤ length piece) (f : Foun
       lt-leb (length s.left) (length (drop from piece) - length s.rest) (omega arith) in
       rw e
       (record {
-        long = ap (λ (x : Found). x.long) g;
+        settled = ap (λ (x : Found). x.settled) g;
         used = ap (λ (x : Found). x.used) g;
-        place = ap (λ (x : Found). x.held) g ∙ sym (ap (λ (t : Bool). not (alone s && t)) no ∙ ap not (and-false (alone s)));
-        in_store = λ q. (ap (λ (x : Found). x.at) g, ap (λ (x : Found). x.count) g, ek);
-        in_piece = λ q. not-both f.held (ap (λ (x : Found). x.held) g) q;
+        place = ap (λ (x : Found). is_some x.at) g ∙ sym (ap (λ (t : Bool). alone s && t) no ∙ and-false (alone s));
+        in_store = λ q. (ap (λ (x : Found). x.count) g, ek);
+        in_piece = λ i q. not-some (ap (λ (x : Found). x.at) g) q;
       })
 
-  pub filled-finds : f.held ≡ true → Finds h piece from f kept
-  filled-finds q = by-test older held-finds (λ t. not-both f.held q (ap (λ (x : Found). x.held) (found-so false t)))
+  pub filled-finds : f.at ≡ None → Finds h piece from f kept
+  filled-finds q = by-test older held-finds (λ t. not-some q (ap (λ (x : Found). x.at) (found-so false t)))
 
   -- what is held is counted, and fits
   count-so : (t : Bool) → older ≡ t → f.count ≡ length stop.left
@@ -115,9 +115,9 @@ module _ (h piece : List ℕ) (from : ℕ) (w : from ≤ length piece) (f : Foun
         ∙ store_cleared stop.left f.count (sym c) count-within
 
     -- no older byte is held: the search goes on in the piece
-    pub filled-ready : f.held ≡ false → Ready h piece from f.at f.used
-    filled-ready q =
-        by-test older (λ t. not-both f.held (ap (λ (x : Found). x.held) (found-so true t)) q) (λ t.
+    pub filled-ready : (i : ℕ) → f.at ≡ Some i → Ready h piece from i f.used
+    filled-ready i q =
+        by-test older (λ t. not-some (ap (λ (x : Found). x.at) (found-so true t)) q) (λ t.
         let s = stop in
         let g = found-so false t in
         let p = drop from piece in
@@ -131,12 +131,12 @@ module _ (h piece : List ℕ) (from : ℕ) (w : from ≤ length piece) (f : Foun
         let l = ltb-false (length piece - from - length s.rest) (length s.left) t in
         let some : n ≤ u = omega arith in
         let used : f.used ≡ from + u = ap (λ (x : Found). x.used) g ∙ omega arith in
-        let at : f.at ≡ from + (u - n) = ap (λ (x : Found). x.at) g ∙ omega arith in
-        let count : f.used - f.at ≡ n = omega arith in
-        let left : s.left ≡ take (f.used - f.at) (drop f.at piece) =
-        parts-taken h p s parts some ∙ ap₂ (λ (i : ℕ) (x : List ℕ). take i x) (sym count)
-        (drop-drop (u - n) from piece ∙ ap (λ (i : ℕ). drop i piece) (sym at)) in
-        let rest : s.rest ≡ drop f.used piece = parts.rest ∙ drop-drop u from piece ∙ ap (λ (i : ℕ). drop i piece) (sym used) in
+        let at : i ≡ from + (u - n) = same-some q (ap (λ (x : Found). x.at) g) ∙ omega arith in
+        let count : f.used - i ≡ n = omega arith in
+        let left : s.left ≡ take (f.used - i) (drop i piece) =
+        parts-taken h p s parts some ∙ ap₂ (λ (m : ℕ) (x : List ℕ). take m x) (sym count)
+        (drop-drop (u - n) from piece ∙ ap (λ (m : ℕ). drop m piece) (sym at)) in
+        let rest : s.rest ≡ drop f.used piece = parts.rest ∙ drop-drop u from piece ∙ ap (λ (m : ℕ). drop m piece) (sym used) in
         record {
           since = omega arith;
           on = omega arith;

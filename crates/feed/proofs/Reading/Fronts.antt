@@ -1,9 +1,9 @@
 -- What settling leaves: the end of what was held, which waits or begins with a settled record; what waits is short. Assumes nothing.
-use Rattle.std.proofs.Common.{◌≡◌, ℕ, suc, ◌-◌, ◌≤◌, false, List, [], ◌∷◌, length, drop, sym, refl, ap, ◌∙◌, inl, inr, ⊎_elim, arith, length-drop}
+use Rattle.std.proofs.Common.{◌≡◌, ℕ, suc, ◌-◌, ◌≤◌, false, Option, None, Some, List, [], ◌∷◌, length, drop, sym, refl, ap, ◌∙◌, inl, inr, ⊎_elim, arith, length-drop}
 use lib.Seq.{drop-length}
 use Rattle.bits.proofs.Yes.{not-both}
 use Rattle.feed.specs.Size.{store_length, most_held}
-use Rattle.feed.specs.Format.{look, settles, length_of, length_shown}
+use Rattle.feed.specs.Format.{look, settles, kind_shown}
 use Rattle.feed.specs.Reader.{kept_by, settle}
 use Rattle.feed.specs.Settled.{front_of}
 use Rattle.feed.specs.declared.format.Kind.{Kind}
@@ -74,20 +74,20 @@ waits-short l e =
 
 -- the two ways in which looking ends
 module _ (l : List ℕ) (at : ℕ) (h : at ≤ length l) (e : settle (drop at l) ≡ settle l) where
-  front-is : (n : ℕ) → drop at l ≡ settle l → n ≡ length_shown (look (drop at l))
-      → ◌≡◌ {A = Front} (record { at = at; long = n }) (front_of l)
-  front-is n d f =
+  front-is : (o : Option Kind) → drop at l ≡ settle l → o ≡ kind_shown (look (drop at l))
+      → ◌≡◌ {A = Front} (record { at = at; settled = o }) (front_of l)
+  front-is o d f =
       let p : at ≡ length l - length (settle l) = rw (sym d, length-drop) (omega arith) in
-      let g : n ≡ length_shown (look (settle l)) = f ∙ ap (λ (m : List ℕ). length_shown (look m)) d in
-      λ i. record { at = p i; long = g i }
+      let g : o ≡ kind_shown (look (settle l)) = f ∙ ap (λ (m : List ℕ). kind_shown (look m)) d in
+      λ i. record { at = p i; settled = g i }
 
-  pub front-waits : look (drop at l) ≡ Waits → ◌≡◌ {A = Front} (record { at = at; long = 0 }) (front_of l)
-  front-waits w = front-is 0 (sym (settle-waits _ w) ∙ e) (ap length_shown (sym w))
+  pub front-waits : look (drop at l) ≡ Waits → ◌≡◌ {A = Front} (record { at = at; settled = None }) (front_of l)
+  front-waits w = front-is None (sym (settle-waits _ w) ∙ e) (ap kind_shown (sym w))
 
-  pub front-settles : (k : Kind) (n : ℕ) → look (drop at l) ≡ Settles k → n ≡ length_of k
-      → ◌≡◌ {A = Front} (record { at = at; long = n }) (front_of l)
-  front-settles k n w m = front-is n (sym (settle-settled _ k w) ∙ e) (m ∙ ap length_shown (sym w))
+  pub front-settles : (k : Kind) → look (drop at l) ≡ Settles k
+      → ◌≡◌ {A = Front} (record { at = at; settled = Some k }) (front_of l)
+  front-settles k w = front-is (Some k) (sym (settle-settled _ k w) ∙ e) (ap kind_shown (sym w))
 
-  pub front-end : at ≡ length l → ◌≡◌ {A = Front} (record { at = at; long = 0 }) (front_of l)
+  pub front-end : at ≡ length l → ◌≡◌ {A = Front} (record { at = at; settled = None }) (front_of l)
   unfolding look
   front-end q = front-waits (rw (q, drop-length))

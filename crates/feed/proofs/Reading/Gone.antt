@@ -1,5 +1,5 @@
 -- What goes had to go, and what stays waits, by the bytes alone. Assumes nothing.
-use Rattle.std.proofs.Common.{◌≡◌, ℕ, zero, suc, ◌-◌, ◌<◌, ◌≤◌, eqb, ltb, List, [], ◌∷◌, length, get_or, take, drop, sym, refl, ap, ◌∙◌, inl, inr, arith, take-append-drop, ltb-false, ltb-true, eqb-true}
+use Rattle.std.proofs.Common.{◌≡◌, ℕ, zero, suc, ◌-◌, ◌<◌, ◌≤◌, eqb, ltb, List, [], ◌∷◌, length, get_or, take, drop, sym, refl, ap, ◌∙◌, inl, inr, arith, take-append-drop, ltb-false, ltb-true, eqb-true, Option, None, Some}
 use borrow.Author.Tests.{eqb-false}
 use Rattle.feed.specs.Size.{mark_byte, minor_length, major_length}
 use Rattle.feed.specs.Format.{row_of, mark_of, length_of, good_kind, full_look, marked_look, look}
@@ -8,8 +8,6 @@ use Rattle.feed.specs.Good.{WholeRecord}
 use Rattle.feed.specs.Answered.{Unfit, no_mark, no_kind, bad_minor, bad_major, Waiting, empty, begun, minor, major}
 use Rattle.feed.specs.declared.format.Kind.{Kind}
 use Rattle.feed.specs.declared.format.Kind.TheVariants.{Minor, Major}
-use Rattle.feed.specs.declared.format.Mark.{Mark}
-use Rattle.feed.specs.declared.format.Mark.TheVariants.{NoMark, Of}
 use Rattle.feed.specs.declared.format.Look.{Look}
 use Rattle.feed.specs.declared.format.Look.TheVariants.{Drops, Waits, Loses, Settles}
 use Rattle.feed.proofs.Records.Lengths.{cond-by}
@@ -85,15 +83,15 @@ full-says l k w u =
     (λ g. says-goes l Loses (λ e. u e (ltb-false (length l) (length_of k) t)) (λ q. let z : ◌≡◌ {A = ℕ} 0 1 = cc in omega arith)))
 
 -- a second byte that makes no mark is no kind's
-no-mark : (b : ℕ) (k : Kind) → NoMark ≡ mark_of b → b ≡ (row_of k).mark → ⊥
+no-mark : (b : ℕ) (k : Kind) → None ≡ mark_of b → b ≡ (row_of k).mark → ⊥
 no-mark b k e q = let w = of-mark b k q in let z : ◌≡◌ {A = ℕ} 0 1 = cc in omega arith
 
-marked-says : (l : List ℕ) → get_or l 0 0 ≡ mark_byte → 2 ≤ length l → (m : Mark) → m ≡ mark_of (get_or l 1 0) → Says l (marked_look m l)
+marked-says : (l : List ℕ) → get_or l 0 0 ≡ mark_byte → 2 ≤ length l → (m : Option Kind) → m ≡ mark_of (get_or l 1 0) → Says l (marked_look m l)
 unfolding marked_look row_of
-marked-says l m n NoMark e =
+marked-says l m n None e =
     says-goes l Drops (λ q. no_kind n (no-mark (get_or l 1 0) Minor e) (no-mark (get_or l 1 0) Major e))
     (λ q. let z : ◌≡◌ {A = ℕ} 0 1 = cc in omega arith)
-marked-says l m n (Of k) e = kind-says k (mark-of (get_or l 1 0) k e)
+marked-says l m n (Some k) e = kind-says k (mark-of (get_or l 1 0) k e)
   where
     kind-says : (k : Kind) → get_or l 1 0 ≡ (row_of k).mark → Says l (full_look k l)
     kind-says Minor b = full-says l Minor (λ s. minor m b s) (λ q s. bad_minor b s (λ r. not-whole minor_length l q (inl r)))

@@ -1,13 +1,11 @@
 -- Reading in place: the bytes held are the first n of those that stand in the piece. Bytes are dropped, waited for and settled as in the
 -- store. Assumes nothing.
-use Rattle.std.proofs.Common.{◌≡◌, ℕ, zero, suc, ◌-◌, ◌<◌, ◌≤◌, true, false, eqb, ltb, List, [], ◌∷◌, ◌++◌, length, get_or, take, drop, sym, refl, ap, ◌∙◌, ap₂, inl, inr, ⊎_elim, eq-or-lt_of_le, arith, take-append-drop, drop-cons, take-suc, ne_eqb, eqb-true}
+use Rattle.std.proofs.Common.{◌≡◌, ℕ, zero, suc, ◌-◌, ◌<◌, ◌≤◌, true, false, eqb, ltb, List, [], ◌∷◌, ◌++◌, length, get_or, take, drop, sym, refl, ap, ◌∙◌, ap₂, inl, inr, ⊎_elim, eq-or-lt_of_le, arith, take-append-drop, drop-cons, take-suc, ne_eqb, eqb-true, Option, None, Some}
 use lib.Seq.{take-length, drop-length}
 use Rattle.feed.specs.Size.{mark_byte}
 use Rattle.feed.specs.Format.{mark_of, length_of, full_look, good_kind, marked_look, look, settles}
 use Rattle.feed.specs.Reader.{settle, reads, Stop}
 use Rattle.feed.specs.declared.format.Kind.{Kind}
-use Rattle.feed.specs.declared.format.Mark.{Mark}
-use Rattle.feed.specs.declared.format.Mark.TheVariants.{NoMark, Of}
 use Rattle.feed.specs.declared.format.Look.{Look}
 use Rattle.feed.specs.declared.format.Look.TheVariants.{Drops, Waits, Loses, Settles}
 use Rattle.feed.proofs.Records.Lengths.{by-test, cond-by}
@@ -39,10 +37,10 @@ full-drops k l =
     cond-by (λ (o : Look). o ≡ Drops → ⊥) (good_kind k l)
     (λ g e. let z : ◌≡◌ {A = ℕ} 0 1 = cc in omega arith) (λ g e. let z : ◌≡◌ {A = ℕ} 0 1 = cc in omega arith))
 
-marked-drops : (m : Mark) (l n : List ℕ) → marked_look m l ≡ Drops → marked_look m n ≡ Drops
+marked-drops : (m : Option Kind) (l n : List ℕ) → marked_look m l ≡ Drops → marked_look m n ≡ Drops
 unfolding marked_look
-marked-drops NoMark l n e = refl
-marked-drops (Of k) l n e = absurd (full-drops k l e)
+marked-drops None l n e = refl
+marked-drops (Some k) l n e = absurd (full-drops k l e)
 
 drops-two : (b c : ℕ) (p q : List ℕ) → look (b ∷ c ∷ p) ≡ Drops → look (b ∷ c ∷ q) ≡ Drops
 drops-two b c p q e =

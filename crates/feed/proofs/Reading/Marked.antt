@@ -1,21 +1,19 @@
 -- A mark at the front: until the record is complete the reader waits, and then the record's bytes decide, whatever is behind them.
 -- Assumes nothing.
-use Rattle.std.proofs.Common.{◌≡◌, ℕ, ◌<◌, ◌≤◌, true, false, eqb, List, ◌++◌, length, get_or, take, drop, sym, refl, ap, ◌∙◌, ⊎_elim, arith, take-append-drop, length-take-le, get_or-take, take-take, le-ltb, lt-ltb, eq-eqb}
+use Rattle.std.proofs.Common.{◌≡◌, ℕ, ◌<◌, ◌≤◌, true, false, eqb, List, ◌++◌, length, get_or, take, drop, sym, refl, ap, ◌∙◌, ⊎_elim, arith, take-append-drop, length-take-le, get_or-take, take-take, le-ltb, lt-ltb, eq-eqb, Option, None, Some}
 use borrow.Author.Tests.{eqb-false}
 use Rattle.feed.specs.Size.{mark_byte}
 use Rattle.feed.specs.Format.{mark_of, length_of, length_marked, full_look, good_kind, marked_look, look}
 use Rattle.feed.specs.declared.format.Kind.{Kind}
-use Rattle.feed.specs.declared.format.Mark.{Mark}
-use Rattle.feed.specs.declared.format.Mark.TheVariants.{NoMark, Of}
 use Rattle.feed.specs.declared.format.Look.{Look}
 use Rattle.feed.specs.declared.format.Look.TheVariants.{Drops, Waits, Loses, Settles}
 use Rattle.feed.proofs.Records.Lengths.{by-test, below_or, kind-long}
 use Rattle.feed.proofs.Records.Looks.{look-append, look-marked}
 
-marked-waits : (m : Mark) (l : List ℕ) → length l < length_marked m → marked_look m l ≡ Waits
+marked-waits : (m : Option Kind) (l : List ℕ) → length l < length_marked m → marked_look m l ≡ Waits
 unfolding marked_look
-marked-waits NoMark l h = absurd (omega arith)
-marked-waits (Of k) l h = simp (lt-ltb (length l) (length_of k) h)
+marked-waits None l h = absurd (omega arith)
+marked-waits (Some k) l h = simp (lt-ltb (length l) (length_of k) h)
 
 -- a record that is not complete
 pub mark-waits : (l : List ℕ) → 1 < length l → get_or l 0 0 ≡ mark_byte → length l < length_marked (mark_of (get_or l 1 0)) → look l ≡ Waits
@@ -31,13 +29,13 @@ first-waits l a b =
     simp (t, eq-eqb (get_or l 0 0) mark_byte (b (omega arith)), eq-eqb (length l) 1 (omega arith)))
 
 -- a byte like that of a mark, and none
-pub no-mark-drops : (l : List ℕ) → 1 < length l → get_or l 0 0 ≡ mark_byte → NoMark ≡ mark_of (get_or l 1 0) → look l ≡ Drops
+pub no-mark-drops : (l : List ℕ) → 1 < length l → get_or l 0 0 ≡ mark_byte → None ≡ mark_of (get_or l 1 0) → look l ≡ Drops
 unfolding marked_look
-no-mark-drops l a b e = look-marked l NoMark (λ q. omega arith) b (λ q. omega arith) e
+no-mark-drops l a b e = look-marked l None (λ q. omega arith) b (λ q. omega arith) e
 
 -- ---- a full record of this kind at the front
 
-module _ (p : List ℕ) (k : Kind) (m : get_or p 0 0 ≡ mark_byte) (e : Of k ≡ mark_of (get_or p 1 0)) (h : length_of k ≤ length p) where
+module _ (p : List ℕ) (k : Kind) (m : get_or p 0 0 ≡ mark_byte) (e : Some k ≡ mark_of (get_or p 1 0)) (h : length_of k ≤ length p) where
   part-long : (i : ℕ) → i ≤ length_of k → length (take i p) ≡ i
   part-long i l = length-take-le i p (omega arith)
 
@@ -59,7 +57,7 @@ module _ (p : List ℕ) (k : Kind) (m : get_or p 0 0 ≡ mark_byte) (e : Of k �
   full-looks =
       let n = part-long (length_of k) (omega arith) in
       let y = kind-long k in
-      look-marked (take (length_of k) p) (Of k) (λ q. omega arith) (get_or-take (length_of k) p 0 0 (omega arith) ∙ m) (λ q. omega arith)
+      look-marked (take (length_of k) p) (Some k) (λ q. omega arith) (get_or-take (length_of k) p 0 0 (omega arith) ∙ m) (λ q. omega arith)
       (e ∙ ap mark_of (sym (get_or-take (length_of k) p 1 0 (omega arith))))
 
   decided : (o : Look) → look (take (length_of k) p) ≡ o → (o ≡ Waits → ⊥) → (n : ℕ) → length_of k ≤ n → look (take n p) ≡ o

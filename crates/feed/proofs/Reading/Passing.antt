@@ -1,14 +1,12 @@
 -- The search in the piece: what is passed over there is dropped, and what is found is what `reads` leaves. Assumes nothing.
-use Rattle.std.proofs.Common.{◌≡◌, ℕ, suc, ◌+◌, ◌-◌, ◌<◌, ◌≤◌, true, false, ◌⊎◌, List, [], ◌∷◌, length, get_or, take, drop, sym, refl, ap, ◌∙◌, ap₂, ⊎_elim, add-one, arith, length-drop, length-take-le, get_or-drop, drop-cons, drop-drop, eq-eqb, ne_eqb}
-use Rattle.bits.proofs.Yes.{not-both}
+use Rattle.std.proofs.Common.{◌≡◌, ℕ, suc, ◌+◌, ◌-◌, ◌<◌, ◌≤◌, true, false, ◌⊎◌, List, [], ◌∷◌, length, get_or, take, drop, sym, refl, ap, ◌∙◌, ap₂, ⊎_elim, add-one, arith, length-drop, length-take-le, get_or-drop, drop-cons, drop-drop, eq-eqb, ne_eqb, None, Some}
 use Rattle.feed.specs.Size.{mark_byte, mark_length, store_length}
-use Rattle.feed.specs.Format.{mark_of, length_of, length_marked, good_kind, look, length_shown}
+use Rattle.feed.specs.Format.{mark_of, length_of, length_marked, good_kind, look, kind_shown}
 use Rattle.feed.specs.Reader.{reads, store, Stop}
 use Rattle.feed.specs.Inside.Finding.{noise, held_from, FoundAt, alone, reads_on}
 use Rattle.feed.specs.declared.format.Kind.{Kind}
-use Rattle.feed.specs.declared.format.Mark.TheVariants.{NoMark, Of}
 use Rattle.feed.specs.declared.format.Look.TheVariants.{Drops, Waits, Loses, Settles}
-use Rattle.feed.proofs.Records.Lengths.{below_or, kind_fits, kind-long}
+use Rattle.feed.proofs.Records.Lengths.{below_or, not-some, same-some, kind_fits, kind-long}
 use Rattle.feed.proofs.Records.Whole.{long-look}
 use Rattle.feed.proofs.Reading.Found.{rest-whole}
 use Rattle.feed.proofs.Reading.InPlace.{cut, drops-one, cut-drops, cut-waited, cut-waits, cut-lost, cut-settled}
@@ -91,15 +89,15 @@ module _ (s : Stop) (piece : List ℕ) (at high : ℕ) (t : Passing s piece at h
       sym t.same ∙ cut-waits (drop at piece) (high - at) (omega arith) w
 
   pub waiting-found : (kept : List ℕ) → kept ≡ store (take (length piece - at) (drop at piece))
-      → FoundAt s (alone s) piece (held_from at (length piece) 0) kept
+      → FoundAt s (alone s) piece (held_from at (length piece) None) kept
   waiting-found kept e =
       rw stops-waiting
       (record {
-        long = sym (ap length_shown w);
+        settled = sym (ap kind_shown w);
         used = omega arith;
         place = rw w refl;
-        in_store = λ q. (refl, sym (length-drop at piece), e ∙ ap store (rest-whole at piece));
-        in_piece = λ q. not-both true refl q;
+        in_store = λ q. (sym (length-drop at piece), e ∙ ap store (rest-whole at piece));
+        in_piece = λ i q. not-some refl q;
       })
 
 -- ---- a mark
@@ -111,15 +109,15 @@ module _ (s : Stop) (piece : List ℕ) (at high : ℕ) (t : Passing s piece at h
   pub one-waits : length piece - at < mark_length → look (drop at piece) ≡ Waits
   one-waits h = let d = length-drop at piece in first-waits (drop at piece) (omega arith) (λ z. first)
 
-  pub passing-no-mark : mark_length ≤ length piece - at → NoMark ≡ mark_of (get_or piece (at + 1) 0) → Passing s piece (at + 1) high
+  pub passing-no-mark : mark_length ≤ length piece - at → None ≡ mark_of (get_or piece (at + 1) 0) → Passing s piece (at + 1) high
   passing-no-mark h e =
       let d = length-drop at piece in
       passing-drops s piece at high t (omega arith)
       (no-mark-drops (drop at piece) (omega arith) first (e ∙ ap mark_of (sym (get_or-drop at piece 1 0))))
 
   -- the mark of a kind
-  module _ (k : Kind) (e : Of k ≡ mark_of (get_or piece (at + 1) 0)) where
-    second : Of k ≡ mark_of (get_or (drop at piece) 1 0)
+  module _ (k : Kind) (e : Some k ≡ mark_of (get_or piece (at + 1) 0)) where
+    second : Some k ≡ mark_of (get_or (drop at piece) 1 0)
     second = e ∙ ap mark_of (sym (get_or-drop at piece 1 0))
 
     pub kind-waits : mark_length ≤ length piece - at → length piece - at < length_of k → look (drop at piece) ≡ Waits
@@ -168,7 +166,7 @@ module _ (s : Stop) (piece : List ℕ) (at high : ℕ) (t : Passing s piece at h
 
         -- bytes behind it are taken already: all that is held goes to the store
         pub held_found : at + long < high → (kept : List ℕ) → kept ≡ store (take (high - at) (drop at piece))
-            → FoundAt s (alone s) piece (held_from at high long) kept
+            → FoundAt s (alone s) piece (held_from at high (Some k)) kept
         held_found a kept ek =
             let p = drop at piece in
             let n = high - at in
@@ -179,16 +177,16 @@ module _ (s : Stop) (piece : List ℕ) (at high : ℕ) (t : Passing s piece at h
             let j : length (drop n p) ≡ length p - n = length-drop n p in
             rw (sym t.same ∙ cut-settled n p k o)
             (record {
-              long = el ∙ sym (ap length_shown o);
+              settled = sym (ap kind_shown o);
               used = omega arith;
               place = rw (o, i, ne_eqb n (length_of k) (λ q. omega arith)) refl;
-              in_store = λ q. (refl, sym i, ek);
-              in_piece = λ q. not-both true refl q;
+              in_store = λ q. (sym i, ek);
+              in_piece = λ j q. not-some refl q;
             })
 
         -- or not
         pub here_found : high ≤ at + long → (kept : List ℕ) → kept ≡ store []
-            → FoundAt s (alone s) piece (record { long = long; held = false; at = at; count = 0; used = at + long }) kept
+            → FoundAt s (alone s) piece (record { settled = Some k; at = Some at; count = 0; used = at + long }) kept
         here_found a kept ek =
             let p = drop at piece in
             let n = length_of k in
@@ -200,11 +198,12 @@ module _ (s : Stop) (piece : List ℕ) (at high : ℕ) (t : Passing s piece at h
             let c = cut-waited n (high - at) p (omega arith) l (part-waits p k first second l) in
             rw (sym t.same ∙ c ∙ cut-settled n p k o)
             (record {
-              long = el ∙ sym (ap length_shown o);
+              settled = sym (ap kind_shown o);
               used = omega arith;
               place = rw (o, i, eq-eqb n n refl) refl;
-              in_store = λ q. not-both false q refl;
-              in_piece = λ q.
-                  let u : at ≡ at + long - long = omega arith in
-                  (u, refl, ek, ap (λ (i : ℕ). take i p) (sym el), omega arith);
+              in_store = λ q. not-some q refl;
+              in_piece = λ j q.
+                  let e : j ≡ at = same-some q refl in
+                  let u : at ≡ at + long - length_of k = omega arith in
+                  rw e (u, refl, ek, refl, omega arith);
             })

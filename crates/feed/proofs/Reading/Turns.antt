@@ -1,16 +1,16 @@
 -- One turn of the loop that fills the store: what is held is settled, and a byte is taken. Assumes nothing.
-use Rattle.std.proofs.Common.{◌≡◌, ℕ, suc, ◌+◌, ◌-◌, ◌<◌, ◌≤◌, true, false, ◌||◌, eqb, ltb, leb, List, [], ◌∷◌, ◌++◌, length, get_or, take, drop, set, replicate, sym, refl, ap, ◌∙◌, ⊎_elim, add-one, arith, length-append, length-drop, drop-cons, ltb-true, le-ltb, lt-ltb, eqb-true, le-leb}
+use Rattle.std.proofs.Common.{◌≡◌, ℕ, suc, ◌+◌, ◌-◌, ◌<◌, ◌≤◌, true, false, ◌||◌, eqb, ltb, leb, None, Some, is_some, List, [], ◌∷◌, ◌++◌, length, get_or, take, drop, set, replicate, sym, refl, ap, ◌∙◌, ⊎_elim, add-one, arith, length-append, length-drop, drop-cons, le-ltb, lt-ltb, eqb-true, le-leb}
 use borrow.Author.Tests.{lt-leb}
 use lib.Seq.{drop-length}
 use Rattle.bits.proofs.Yes.{or_cases, or_left, or_right, or-neither}
 use Rattle.feed.specs.Size.{store_length}
-use Rattle.feed.specs.Format.{look, settles, length_shown}
+use Rattle.feed.specs.Format.{look, settles, kind_shown}
 use Rattle.feed.specs.Reader.{settle, store, Stop}
 use Rattle.feed.specs.Settled.{front_of}
 use Rattle.feed.specs.Inside.Finding.{fills, found_by}
 use Rattle.feed.specs.declared.reader.Front.{Front}
 use Rattle.feed.specs.declared.reader.Found.{Found}
-use Rattle.feed.proofs.Records.Lengths.{shown-none, shown-some}
+use Rattle.feed.proofs.Records.Lengths.{kind-some}
 use Rattle.feed.proofs.Reading.Fronts.{settle-end, waits-short}
 use Rattle.feed.proofs.Reading.Stores.{take-store, length-store, store-more, store-drop}
 use Rattle.feed.proofs.Reading.Fills.{over, fills-stop, fills-end, fills-more}
@@ -50,15 +50,18 @@ module _ (s : Stop) (piece : List ℕ) (from : ℕ) (b : List ℕ) (n used : ℕ
     front_at : f.at ≡ length t.held - length (settle t.held)
     front_at = ap (λ (g : Front). g.at) front-held
 
-    front_long : f.long ≡ length_shown (look (settle t.held))
-    front_long = ap (λ (g : Front). g.long) front-held
+    front_settled : f.settled ≡ kind_shown (look (settle t.held))
+    front_settled = ap (λ (g : Front). g.settled) front-held
+
+    front-shows : is_some f.settled ≡ settles (look (settle t.held))
+    front-shows = ap is_some front_settled ∙ kind-some (look (settle t.held))
 
     -- a record is there, or none
-    front-some : 0 < f.long → settles (look (settle t.held)) ≡ true
-    front-some h = shown-some (look (settle t.held)) (rw (sym front_long) h)
+    front-some : is_some f.settled ≡ true → settles (look (settle t.held)) ≡ true
+    front-some h = sym front-shows ∙ h
 
-    front-none : f.long ≤ 0 → settles (look (settle t.held)) ≡ false
-    front-none h = shown-none (look (settle t.held)) (let e = front_long in omega arith)
+    front-none : is_some f.settled ≡ false → settles (look (settle t.held)) ≡ false
+    front-none h = sym front-shows ∙ h
 
     front-end : drop f.at t.held ≡ settle t.held
     front-end = ap (λ (m : ℕ). drop m t.held) front_at ∙ settle-end t.held
@@ -100,7 +103,7 @@ module _ (s : Stop) (piece : List ℕ) (from : ℕ) (b : List ℕ) (n used : ℕ
 
       -- no byte is held that came before the piece
       pub turn-over : n' ≤ used - from
-          → Fills piece from s (record { long = 0; held = false; at = used - n'; count = n'; used = used }) b'
+          → Fills piece from s (record { settled = None; at = Some (used - n'); count = n'; used = used }) b'
       turn-over l =
           let h = settle t.held in
           let o : over (used - from) h ≡ true = or_left (leb (length h) (used - from)) _ (le-leb (length h) (used - from) (omega arith)) in
@@ -109,28 +112,28 @@ module _ (s : Stop) (piece : List ℕ) (from : ℕ) (b : List ℕ) (n used : ℕ
 
       -- one is, and a record is settled or the piece is used up
       found-is : s ≡ record { left = settle t.held; rest = drop used piece } → used - from < n'
-          → Fills piece from s (record { long = f.long; held = true; at = 0; count = n'; used = used }) b'
+          → Fills piece from s (record { settled = f.settled; at = None; count = n'; used = used }) b'
       found-is e l =
           let h = settle t.held in
           let yes : ltb (used - from) (length h) ≡ true = lt-ltb (used - from) (length h) (omega arith) in
-          rw (e, taken-so-far, yes, used-so-far) (rw (en, front_long) refl, eb)
+          rw (e, taken-so-far, yes, used-so-far) (rw (en, front_settled) refl, eb)
 
-      pub turn-found : used - from < n' → (ltb 0 f.long || eqb used (length piece)) ≡ true
-          → Fills piece from s (record { long = f.long; held = true; at = 0; count = n'; used = used }) b'
+      pub turn-found : used - from < n' → (is_some f.settled || eqb used (length piece)) ≡ true
+          → Fills piece from s (record { settled = f.settled; at = None; count = n'; used = used }) b'
       turn-found l z =
           let h = settle t.held in
           ⊎_elim
-          (λ v. found-is (ends_at (or_right (leb (length h) (used - from)) _ (front-some (ltb-true 0 f.long v)))) l)
+          (λ v. found-is (ends_at (or_right (leb (length h) (used - from)) _ (front-some v))) l)
           (λ v.
           let d : drop used piece ≡ [] = ap (λ (m : ℕ). drop m piece) (eqb-true used (length piece) v) ∙ drop-length piece in
           found-is (sym t.same ∙ rw d (fills-end (used - from) t.held)) l)
-          (or_cases (ltb 0 f.long) (eqb used (length piece)) z)
+          (or_cases (is_some f.settled) (eqb used (length piece)) z)
 
-      pub turn-room : f.long ≤ 0 → n' < store_length
+      pub turn-room : is_some f.settled ≡ false → n' < store_length
       turn-room z = let w = waits-short t.held (front-none z) in omega arith
 
       -- a byte is taken
-      pub turn_more : used - from < n' → f.long ≤ 0 → used < length piece
+      pub turn_more : used - from < n' → is_some f.settled ≡ false → used < length piece
           → Turn s piece from (set b' n' (get_or piece used 0)) (n' + 1) (used + 1)
       turn_more o z u =
           let l = settle t.held in

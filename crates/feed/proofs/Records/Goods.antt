@@ -1,5 +1,5 @@
 -- What settles is a whole record by its bytes, and a whole record settles. Assumes nothing.
-use Rattle.std.proofs.Common.{◌≡◌, ℕ, ◌<◌, ◌≤◌, true, ◌&&◌, eqb, List, length, get_or, sym, refl, inl, inr, arith, eqb-true}
+use Rattle.std.proofs.Common.{◌≡◌, ℕ, ◌<◌, ◌≤◌, true, ◌&&◌, eqb, List, length, get_or, sym, refl, inl, inr, arith, eqb-true, Option, Some}
 use Rattle.bits.proofs.Yes.{and_left, and_right, and_both}
 use Rattle.feed.specs.Size.{mark_byte, minor_mark, major_mark, minor_length, major_length}
 use Rattle.feed.specs.Format.{row_of, mark_of, length_of, sum_right, reserved_zero, quantities_right, good_minor, good_major}
@@ -7,8 +7,6 @@ use Rattle.feed.specs.Format.{good_kind, look}
 use Rattle.feed.specs.Good.{MinorRecord, MajorRecord, WholeRecord}
 use Rattle.feed.specs.declared.format.Kind.{Kind}
 use Rattle.feed.specs.declared.format.Kind.TheVariants.{Minor, Major}
-use Rattle.feed.specs.declared.format.Mark.{Mark}
-use Rattle.feed.specs.declared.format.Mark.TheVariants.{Of}
 use Rattle.feed.specs.declared.format.Look.TheVariants.{Settles}
 use Rattle.feed.proofs.Records.Lengths.{cond-by, kind-long}
 use Rattle.feed.proofs.Records.Tails.{settled-right, right-settles}
@@ -18,8 +16,8 @@ use Rattle.feed.proofs.Records.GoodParts.{sum_to, sum-from}
 -- ---- marks
 
 -- the second byte announces a kind exactly if it is that kind's
-abbrev Marks : ℕ → Mark → Type 0
-Marks b m = (k : Kind) → m ≡ Of k → b ≡ (row_of k).mark
+abbrev Marks : ℕ → Option Kind → Type 0
+Marks b m = (k : Kind) → m ≡ Some k → b ≡ (row_of k).mark
 
 marks : (b : ℕ) → Marks b (mark_of b)
 unfolding mark_of row_of
@@ -28,10 +26,10 @@ marks b =
     cond-by (Marks b) (eqb b major_mark) (λ s k e. let q : Major ≡ k = cc in rw (sym q) (eqb-true b major_mark s))
     (λ s k e. let z : ◌≡◌ {A = ℕ} 0 1 = cc in absurd (omega arith)))
 
-pub mark-of : (b : ℕ) (k : Kind) → Of k ≡ mark_of b → b ≡ (row_of k).mark
+pub mark-of : (b : ℕ) (k : Kind) → Some k ≡ mark_of b → b ≡ (row_of k).mark
 mark-of b k e = marks b k (sym e)
 
-pub of-mark : (b : ℕ) (k : Kind) → b ≡ (row_of k).mark → Of k ≡ mark_of b
+pub of-mark : (b : ℕ) (k : Kind) → b ≡ (row_of k).mark → Some k ≡ mark_of b
 unfolding mark_of row_of
 of-mark b Minor e = rw e refl
 of-mark b Major e = rw e refl
@@ -47,7 +45,7 @@ unfolding row_of good_minor good_major
 settles-whole r k s = by k s.0 (settled-right r k s.1)
   where
     by : (k : Kind) → length r ≡ length_of k
-        → (get_or r 0 0 ≡ mark_byte) × (Of k ≡ mark_of (get_or r 1 0)) × (length_of k ≤ length r) × (good_kind k r ≡ true) → WholeRecord r
+        → (get_or r 0 0 ≡ mark_byte) × (Some k ≡ mark_of (get_or r 1 0)) × (length_of k ≤ length r) × (good_kind k r ≡ true) → WholeRecord r
     by Minor l x = inl (record {
       long = l;
       mark = (x.0, mark-of (get_or r 1 0) Minor x.1);

@@ -1,13 +1,11 @@
 -- Tests, kinds and looks: a property of a choice by what its test says, the lengths of the kinds, and when a look shows a record.
 -- Assumes nothing.
-use Rattle.std.proofs.Common.{◌≡◌, ℕ, ◌<◌, ◌≤◌, Bool, true, false, cond, ltb, ◌⊎◌, List, [], ◌∷◌, length, refl, inl, inr, arith, ltb-false, ltb-true}
+use Rattle.std.proofs.Common.{◌≡◌, ℕ, ◌<◌, ◌≤◌, Bool, true, false, cond, ltb, ◌⊎◌, List, [], ◌∷◌, length, refl, ap, inl, inr, arith, ltb-false, ltb-true, Option, None, Some, is_some}
 use Rattle.bits.proofs.Yes.{not-both}
 use Rattle.feed.specs.Size.{store_length, least_length}
-use Rattle.feed.specs.Format.{row_of, length_of, length_marked, settles, length_shown}
+use Rattle.feed.specs.Format.{row_of, length_of, length_marked, settles, length_shown, kind_shown}
 use Rattle.feed.specs.declared.format.Kind.{Kind}
 use Rattle.feed.specs.declared.format.Kind.TheVariants.{Minor, Major}
-use Rattle.feed.specs.declared.format.Mark.{Mark}
-use Rattle.feed.specs.declared.format.Mark.TheVariants.{NoMark, Of}
 use Rattle.feed.specs.declared.format.Look.{Look}
 use Rattle.feed.specs.declared.format.Look.TheVariants.{Drops, Waits, Loses, Settles}
 
@@ -23,6 +21,13 @@ cond-by P false f g = g refl
 
 pub below_or : (a b : ℕ) → (a < b) ⊎ (b ≤ a)
 below_or a b = by-test (ltb a b) (λ t. inl (ltb-true a b t)) (λ t. inr (ltb-false a b t))
+
+-- a place is there or not, and one only
+pub not-some : {P : Type 0} {o : Option ℕ} {i : ℕ} → o ≡ None → o ≡ Some i → P
+not-some p q = absurd cc
+
+pub same-some : {o : Option ℕ} {i j : ℕ} → o ≡ Some i → o ≡ Some j → i ≡ j
+same-some p q = cc
 
 -- ---- lengths
 
@@ -41,9 +46,9 @@ unfolding row_of
 kind-long Minor = omega arith
 kind-long Major = omega arith
 
-pub mark-fits : (m : Mark) → length_marked m ≤ store_length
-mark-fits NoMark = omega arith
-mark-fits (Of k) = kind_fits k
+pub mark-fits : (m : Option Kind) → length_marked m ≤ store_length
+mark-fits None = omega arith
+mark-fits (Some k) = kind_fits k
 
 -- ---- looks
 
@@ -74,3 +79,22 @@ shown-none (Settles k) e = absurd (omega (arith, kind-long k))
 
 pub shown-some : (o : Look) → 0 < length_shown o → settles o ≡ true
 shown-some o h = by-test (settles o) (λ t. t) (λ t. absurd (omega (arith, none-shown o t)))
+
+-- the kind tells too, and the length is the kind's
+pub kind-some : (o : Look) → is_some (kind_shown o) ≡ settles o
+kind-some Drops = refl
+kind-some Waits = refl
+kind-some Loses = refl
+kind-some (Settles k) = refl
+
+pub kind-settles : (o : Look) (k : Kind) → kind_shown o ≡ Some k → o ≡ Settles k
+kind-settles Drops k e = absurd cc
+kind-settles Waits k e = absurd cc
+kind-settles Loses k e = absurd cc
+kind-settles (Settles l) k e = let q : l ≡ k = cc in ap Settles q
+
+pub kind-length : (o : Look) → length_marked (kind_shown o) ≡ length_shown o
+kind-length Drops = refl
+kind-length Waits = refl
+kind-length Loses = refl
+kind-length (Settles k) = refl

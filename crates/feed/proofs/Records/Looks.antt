@@ -1,6 +1,6 @@
 -- Looks: what a look decides stays decided when bytes are appended, a settled record stands there whole, and what waits is short.
 -- Assumes nothing.
-use Rattle.std.proofs.Common.{◌≡◌, ℕ, ◌+◌, ◌-◌, ◌*◌, ◌<◌, ◌≤◌, Bool, ◌&&◌, eqb, ltb, leb, ◌⊎◌, List, ◌++◌, length, get_or, sym, refl, ap, ◌∙◌, ap₂, inl, inr, ⊎_elim, arith, length-append, ltb-false, le-ltb, eq-eqb, ne_eqb, eqb-true}
+use Rattle.std.proofs.Common.{◌≡◌, ℕ, ◌+◌, ◌-◌, ◌*◌, ◌<◌, ◌≤◌, Bool, ◌&&◌, eqb, ltb, leb, ◌⊎◌, List, ◌++◌, length, get_or, sym, refl, ap, ◌∙◌, ap₂, inl, inr, ⊎_elim, arith, length-append, ltb-false, le-ltb, eq-eqb, ne_eqb, eqb-true, Option, None, Some}
 use borrow.Author.Tests.{eqb-false}
 use lib.ListN.{get_or-append}
 use lib.Seq.{take-append-le}
@@ -13,14 +13,12 @@ use Rattle.feed.specs.Format.{row_of, mark_of, length_of, sum_of, sum_right, res
 use Rattle.feed.specs.Format.{quantities_right, good_minor, good_major, good_kind, full_look, marked_look, look}
 use Rattle.feed.specs.declared.format.Kind.{Kind}
 use Rattle.feed.specs.declared.format.Kind.TheVariants.{Minor, Major}
-use Rattle.feed.specs.declared.format.Mark.{Mark}
-use Rattle.feed.specs.declared.format.Mark.TheVariants.{NoMark, Of}
 use Rattle.feed.specs.declared.format.Look.{Look}
 use Rattle.feed.specs.declared.format.Look.TheVariants.{Waits}
 use Rattle.feed.proofs.Records.Lengths.{by-test}
 
 -- the front shows a mark
-pub look-marked : (l : List ℕ) (m : Mark) → (length l ≡ 0 → ⊥) → get_or l 0 0 ≡ mark_byte → (length l ≡ 1 → ⊥) → m ≡ mark_of (get_or l 1 0)
+pub look-marked : (l : List ℕ) (m : Option Kind) → (length l ≡ 0 → ⊥) → get_or l 0 0 ≡ mark_byte → (length l ≡ 1 → ⊥) → m ≡ mark_of (get_or l 1 0)
     → look l ≡ marked_look m l
 unfolding look
 look-marked l m h0 h1 h2 e = simp (ne_eqb _ _ h0, eq-eqb _ _ h1, ne_eqb _ _ h2, sym e)
@@ -87,10 +85,10 @@ module _ (l q : List ℕ) where
       let m = longer in
       inr (simp (s, le-ltb (length (l ++ q)) (length_of k) (omega arith), good-append k y)))
 
-  marked_append : (m : Mark) → Same (marked_look m l) (marked_look m (l ++ q))
+  marked_append : (m : Option Kind) → Same (marked_look m l) (marked_look m (l ++ q))
   unfolding marked_look
-  marked_append NoMark = inr refl
-  marked_append (Of k) = full-append k
+  marked_append None = inr refl
+  marked_append (Some k) = full-append k
 
   -- what a look decides stays decided
   pub look-append : Same (look l) (look (l ++ q))

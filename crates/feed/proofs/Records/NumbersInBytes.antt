@@ -1,9 +1,15 @@
 -- Numbers in bytes: a number put into two bytes or four is read back, wherever those bytes stand in a list; bytes read and put again are
--- the same; a number whose bytes are turned round has, low byte first, the bytes that it had high byte first. Assumes nothing.
-use Rattle.std.proofs.Common.{◌≡◌, ℕ, suc, ◌+◌, ◌*◌, ◌/◌, ◌%◌, ◌^◌, ◌<◌, ◌≤◌, List, [], ◌∷◌, length, get_or, take, drop, sym, refl, ap, ◌∙◌, add-zero, mod-lt, mod-eq_of_lt, zero-lt-suc, div-add-mod', add-one, arith, drop-cons, eq-eqb, ne_eqb}
+-- the same. Assumes nothing.
+use Rattle.std.proofs.Common.{◌≡◌, ℕ, suc, ◌+◌, ◌-◌, ◌*◌, ◌/◌, ◌%◌, ◌^◌, ◌<◌, ◌≤◌, ⊎_elim, List, [], ◌∷◌, length, get_or, take, drop, sym, refl, ap, ◌∙◌, add-zero, mod-eq_of_lt, div-add-mod', add-one, arith, length-drop, drop-cons, take_all, eq-eqb}
+use denote.Bor.{Bor}
+use Rattle.std.proofs.lemmas.List.{get_or-drop}
+use lib.ListN.{get_or-eq_default}
+use Rattle.std.specs.List.{PartBy}
+use Rattle.std.specs.Option.{unwrap_or}
+use Rattle.std.specs.declared.option.Option.{Option}
+use Rattle.std.specs.declared.option.Option.TheVariants.{Some, None}
 use native.Mathlib.Nat.{div-div-eq-div-mul}
 use Rattle.feed.specs.Bytes.{two, four, in_two, in_four, put_over}
-use Rattle.feed.specs.Inside.LowFirst.{low_two, low_four}
 
 two-same : (p q x y : ℕ) → p ≡ x → q ≡ y → ◌≡◌ {A = List ℕ} (p ∷ q ∷ []) (x ∷ y ∷ [])
 two-same p q x y e f = rw (e, f) refl
@@ -85,30 +91,22 @@ module _ (l : List ℕ) (bytes : (i : ℕ) → get_or l i 0 < 256) (i : ℕ) whe
 pub in_two-low : (w : ℕ) → in_two (w % 65536) ≡ in_two w
 in_two-low w = two-same _ _ _ _ (omega arith) (omega arith)
 
--- ---- a part that is as long is put over, and no other
+-- ---- a part that is as long is put over
 
 pub put-over : (v l : List ℕ) → length l ≡ length v → put_over v l ≡ v
 put-over v l e = rw (eq-eqb (length l) (length v) e) refl
 
-pub put-none : (v l : List ℕ) → (length l ≡ length v → ⊥) → put_over v l ≡ l
-put-none v l h = rw (ne_eqb (length l) (length v) h) refl
+-- ---- the bytes behind a place, none where it is past the end
 
--- ---- turned round
-
--- of two bytes, the higher last
-pair-turned : (a b : ℕ) → a < 256 → b < 256 → low_two (a * 256 + b) ≡ (b % 256 ∷ a ∷ [])
-pair-turned a b i j = two-same _ _ _ _ (omega arith) (omega arith)
-
-pub two-turned : (x : ℕ) → x < 65536 → low_two (x % 256 * 256 + x / 256) ≡ in_two x
-two-turned x h = pair-turned (x % 256) (x / 256) (mod-lt x (zero-lt-suc 255)) (omega arith)
-
--- of four bytes, the highest last
-bytes-turned : (a b c d : ℕ) → a < 256 → b < 256 → c < 256 → d < 256
-    → low_four (a * 16777216 + b * 65536 + c * 256 + d) ≡ (d % 256 ∷ c ∷ b ∷ a ∷ [])
-bytes-turned a b c d i j k l = four_same _ _ _ _ _ _ _ _ (omega arith) (omega arith) (omega arith) (omega arith)
-
-pub four-turned : (x : ℕ) → x < 2 ^ 32
-    → low_four (x % 256 * 16777216 + x / 256 % 256 * 65536 + x / 65536 % 256 * 256 + x / 16777216) ≡ in_four x
-four-turned x h =
-    let byte : (w : ℕ) → w % 256 < 256 = λ w. mod-lt w (zero-lt-suc 255) in
-    bytes-turned (x % 256) (x / 256 % 256) (x / 65536 % 256) (x / 16777216) (byte x) (byte (x / 256)) (byte (x / 65536)) (omega arith)
+pub from-behind : (l : List ℕ) (i : ℕ) (r : Option (Bor (List ℕ))) (d x : Bor (List ℕ)) → d.now ≡ []
+    → PartBy (λ (y : Bor (List ℕ)). y.now) l i (length l) r → x ≡ unwrap_or r d → (k : ℕ) → get_or x.now k 0 ≡ get_or l (i + k) 0
+from-behind l i None d x e p f k =
+    let past : length l < i = ⊎_elim (λ (h : length l < i). h) (λ (h : length l < length l). absurd (omega arith)) p.0 in
+    ap (λ (z : Bor (List ℕ)). get_or z.now k 0) f
+    ∙ ap (λ (m : List ℕ). get_or m k 0) e
+    ∙ sym (get_or-eq_default l 0 {n = i + k} (omega arith))
+from-behind l i (Some y) d x e p f k =
+    let whole : take (length l - i) (drop i l) ≡ drop i l = take_all (length l - i) (drop i l) (omega (arith, length-drop i l)) in
+    ap (λ (z : Bor (List ℕ)). get_or z.now k 0) f
+    ∙ ap (λ (m : List ℕ). get_or m k 0) (p.0.2 ∙ whole)
+    ∙ get_or-drop i l k 0

@@ -8,7 +8,7 @@ use Rattle.feed.specs.Size.{store_length}
 use Rattle.feed.specs.Bytes.{two, four}
 use Rattle.feed.specs.Reader.{store}
 use Rattle.feed.specs.Values.{sample_at, samples_of, minor_of, words_at, temperatures_at, temperatures_of, requests_at, requests_of}
-use Rattle.feed.specs.Values.{quantities_at, quantities_of, major_of}
+use Rattle.feed.specs.Values.{quantities_at, quantities_of, major_of, values_of}
 use Rattle.feed.proofs.Records.Lengths.{below_or}
 use Rattle.feed.proofs.Records.Tables.{table_same}
 use Rattle.feed.proofs.Reports.Parts.{get_d_past}
@@ -88,3 +88,7 @@ module _ (l k : List ℕ) (e : (i : ℕ) → get_or l i 0 ≡ get_or k i 0) wher
   pub major-same : major_of l ≡ major_of k
   unfolding major_of
   major-same = rw (minor-same, temperatures-same, requests-same, quantities-same) refl
+
+  pub values-same : values_of l ≡ values_of k
+  unfolding values_of
+  values-same = rw (e 1, minor-same, major-same) refl

@@ -1,6 +1,6 @@
 -- The sum of bytes, one byte more, and partial sums; and what decides whether a record is good where the tests before it hold.
 -- Assumes nothing.
-use Rattle.std.proofs.Common.{◌≡◌, ℕ, zero, suc, ◌+◌, ◌*◌, ◌%◌, ◌^◌, ◌<◌, ◌≤◌, Bool, true, false, ◌&&◌, List, [], ◌∷◌, ◌++◌, length, get_or, take, drop, sym, refl, ap, ◌∙◌, ap₂, add-one, arith, take-append-drop, take-suc, take-add, eq-eqb, ne_eqb}
+use Rattle.std.proofs.Common.{◌≡◌, ℕ, zero, suc, ◌+◌, ◌-◌, ◌*◌, ◌%◌, ◌^◌, ◌<◌, ◌≤◌, Bool, true, false, ◌&&◌, List, [], ◌∷◌, ◌++◌, length, get_or, take, drop, sym, refl, ap, ◌∙◌, ap₂, add-one, arith, take-suc, take-add, eq-eqb, ne_eqb}
 use native.Mathlib.Nat.{add-mod}
 use Rattle.feed.specs.Size.{sum_span, minor_summed, major_summed, major_length}
 use Rattle.feed.specs.Bytes.{two}
@@ -19,15 +19,12 @@ sum_more s i h = rw (add-one, take-suc s i 0) (omega (arith, total-append (take 
 -- ---- partial sums
 
 -- joined by the wrapping addition they come to the sum of all bytes
-sum-append : (l m : List ℕ) → (sum_of l + sum_of m) % 2 ^ 16 ≡ sum_of (l ++ m)
+pub sum-append : (l m : List ℕ) → (sum_of l + sum_of m) % 2 ^ 16 ≡ sum_of (l ++ m)
 unfolding sum_of
 sum-append l m = rw (total-append l m) (sym (add-mod (total l) (total m) sum_span))
 
 pub sum-span : (l : List ℕ) (i k : ℕ) → (sum_of (take i l) + sum_of (take k (drop i l))) % 2 ^ 16 ≡ sum_of (take (i + k) l)
 sum-span l i k = sum-append (take i l) (take k (drop i l)) ∙ ap sum_of (sym (take-add i k l))
-
-pub sum-rest : (l : List ℕ) (i : ℕ) → (sum_of (take i l) + sum_of (drop i l)) % 2 ^ 16 ≡ sum_of l
-sum-rest l i = sum-append (take i l) (drop i l) ∙ ap sum_of (take-append-drop i l)
 
 -- r is what is left of g without the sum b of the last k bytes: g is the sum of i + k bytes if r is that of the first i, and only then
 module _ (l : List ℕ) (i k g b r : ℕ) (eb : b ≡ sum_of (take k (drop i l))) (er : (r + b) % 2 ^ 16 ≡ g) where
@@ -37,6 +34,10 @@ module _ (l : List ℕ) (i k g b r : ℕ) (eb : b ≡ sum_of (take k (drop i l))
   pub rest-of-right : r < 2 ^ 16 → g ≡ sum_of (take (i + k) l) → r ≡ sum_of (take i l)
   unfolding sum_of
   rest-of-right h e = omega (arith, sum-span l i k)
+
+-- what a wrapping subtraction leaves, added again
+pub rest-back : (g b : ℕ) → g < 2 ^ 16 → b < 2 ^ 16 → ((g + (2 ^ 16 - b)) % 2 ^ 16 + b) % 2 ^ 16 ≡ g
+rest-back g b h k = omega arith
 
 -- a byte adds at most 255
 total-most : (n : ℕ) (l : List ℕ) → ((i : ℕ) → get_or l i 0 < 256) → total (take n l) ≤ 255 * n

@@ -1,7 +1,10 @@
--- Lists by a rule of their places: what stands where, and the loop that fills an array so. Assumes nothing.
-use Rattle.std.proofs.Common.{◌≡◌, ℕ, zero, suc, ◌+◌, ◌<◌, ◌≤◌, List, [], ◌∷◌, ◌++◌, length, get_or, drop, set, sym, refl, ap, ◌∙◌, ⊎_elim, append_assoc, append-nil, le_of_suc-le-suc, not-suc-le-zero, eq-or-lt_of_le, add-one, arith, length-append, drop_of_length-le, drop-cons}
+-- Lists by a rule of their places: what stands where, the loop that fills an array so, and the array that calls make so. Assumes nothing.
+use Rattle.std.proofs.Common.{◌≡◌, subst, ℕ, zero, suc, ◌+◌, ◌<◌, ◌≤◌, List, [], ◌∷◌, ◌++◌, length, get_or, drop, set, sym, refl, ap, ◌∙◌, ⊎_elim, append_assoc, append-nil, le_of_suc-le-suc, not-suc-le-zero, eq-or-lt_of_le, add-one, arith, length-append, drop_of_length-le, drop-cons}
 use lib.ListN.{get_or-append}
 use lib.Seq.{set_at, get_or_at}
+use denote.Param.Members.{Mut, Called}
+use Rattle.std.specs.Array.{IsFromFnResultFrom, IsFromFnResult, IsMapOf}
+use Rattle.std.proofs.lemmas.List.{same_lists}
 use Rattle.cycle.specs.Each.{table}
 
 -- an array m of n places, l at first, whose places below k are filled by the rule
@@ -56,3 +59,35 @@ module _ {A : Type 0} (f : ℕ → A) where
       ∙ ap (λ (j : ℕ). table j f ++ drop j l) last
       ∙ ap (λ (s : List A). table n f ++ s) (drop_of_length-le l {i = n} (omega arith))
       ∙ append-nil (table n f)
+
+-- ---- an array of which a call at each place makes the element, as the rule says, and leaves the callee as it is
+
+module _ {F A : Type 0} (g : Mut F (ℕ × Unit {0}) A) (rule : ℕ → A) (f : F)
+    (gives : (i : ℕ) (x : A) (q : F) → Called g f (i, tt) x q → (q ≡ f) × (x ≡ rule i)) where
+  made_at : (m : List A) (i n : ℕ) (p : F) → p ≡ f → IsFromFnResultFrom g p m i n → (j : ℕ) (d : A) → i ≤ j → j < i + n → get_or m j d ≡ rule j
+  made_at m i zero p e w j d a b = absurd (omega arith)
+  made_at m i (suc n) p e w j d a b =
+      let given : (w.0 ≡ f) × (w.1 ≡ rule i) = gives i w.1 w.0 (subst (λ (p : F). Called g p (i, tt) w.1 w.0) e w.3) in
+      ⊎_elim
+      (λ (same : i ≡ j). subst (λ (k : ℕ). get_or m k d ≡ rule k) same (w.2.1 d ∙ given.1))
+      (λ (less : i < j). made_at m (i + 1) n w.0 given.0 w.4 j d (omega arith) (omega arith))
+      (eq-or-lt_of_le a)
+
+  pub table-made : (m : List A) (n : ℕ) → IsFromFnResult g f m n → m ≡ table n rule
+  table-made m n made =
+      same_lists m (table n rule) (made.long ∙ sym (table-length rule n))
+      (λ k d h. let b : k < n = omega (arith, made.long) in made_at m 0 n f refl made.each k d (omega arith) (omega arith) ∙ sym (table_at rule d n k b))
+
+-- ---- and an array that a map made
+
+module _ {F A B : Type 0} (g : Mut F (A × Unit {0}) B) (rule : A → B)
+    (gives : (x : A) (y : B) (p q : F) → Called g p (x, tt) y q → y ≡ rule x) where
+  pub mapped_at : (f : F) (l : List A) (m : List B) (n i : ℕ) (d : A) (e : B) → IsMapOf g f l m n → i < n → get_or m i e ≡ rule (get_or l i d)
+  mapped_at f l m n i d e made h = let w = made.at i d e h in gives (get_or l i d) (get_or m i e) w.0 w.1 w.2
+
+  pub table-mapped : (f : F) (l : List A) (m : List B) (n : ℕ) (d : A) → IsMapOf g f l m n → m ≡ table n (λ i. rule (get_or l i d))
+  table-mapped f l m n d made =
+      same_lists m (table n (λ i. rule (get_or l i d))) (made.long ∙ sym (table-length (λ i. rule (get_or l i d)) n))
+      (λ k e h.
+      let b : k < n = omega (arith, made.long) in
+      mapped_at f l m n k d e made b ∙ sym (table_at (λ i. rule (get_or l i d)) e n k b))

@@ -1,11 +1,10 @@
 -- What settles has mark, length, sum, reserved bits and quantities right, and the reverse; no byte dropped began such a record.
 -- Assumes nothing.
-use Rattle.std.proofs.Common.{◌≡◌, ℕ, zero, suc, ◌-◌, ◌<◌, ◌≤◌, Bool, true, cond, eqb, List, [], ◌∷◌, length, get_or, drop, refl, ap, ◌∙◌, inl, inr, arith, le-ltb, ne_eqb, eqb-true}
+use Rattle.std.proofs.Common.{◌≡◌, ℕ, zero, suc, ◌-◌, ◌<◌, ◌≤◌, Bool, true, cond, eqb, List, [], ◌∷◌, length, get_or, drop, refl, ap, ◌∙◌, inl, inr, arith, le-ltb, ne_eqb, eqb-true, Some}
 use Rattle.feed.specs.Size.{mark_byte}
 use Rattle.feed.specs.Format.{mark_of, length_of, good_kind, marked_look, look}
 use Rattle.feed.specs.Reader.{kept_by, settle}
 use Rattle.feed.specs.declared.format.Kind.{Kind}
-use Rattle.feed.specs.declared.format.Mark.TheVariants.{Of}
 use Rattle.feed.specs.declared.format.Look.{Look}
 use Rattle.feed.specs.declared.format.Look.TheVariants.{Drops, Waits, Loses, Settles}
 use Rattle.feed.proofs.Records.Lengths.{by-test, kind-long}
@@ -40,16 +39,16 @@ dropped-bad (a ∷ l) i h k e = by (dropped-bad l) (look (a ∷ l)) refl i h k e
 
 -- ---- what is settled
 
-look-full : (l : List ℕ) (k : Kind) → get_or l 0 0 ≡ mark_byte → Of k ≡ mark_of (get_or l 1 0) → length_of k ≤ length l
+look-full : (l : List ℕ) (k : Kind) → get_or l 0 0 ≡ mark_byte → Some k ≡ mark_of (get_or l 1 0) → length_of k ≤ length l
     → look l ≡ cond (good_kind k l) (Settles k) Loses
 unfolding marked_look
 look-full l k m e h =
     let n = kind-long k in
-    look-marked l (Of k) (λ q. omega arith) m (λ q. omega arith) e ∙ rw (le-ltb (length l) (length_of k) h)
+    look-marked l (Some k) (λ q. omega arith) m (λ q. omega arith) e ∙ rw (le-ltb (length l) (length_of k) h)
 
 -- what settles has the mark, the kind that the second byte announces and that kind's length, and is good
 pub settled-right : (l : List ℕ) (k : Kind) → look l ≡ Settles k
-    → (get_or l 0 0 ≡ mark_byte) × (Of k ≡ mark_of (get_or l 1 0)) × (length_of k ≤ length l) × (good_kind k l ≡ true)
+    → (get_or l 0 0 ≡ mark_byte) × (Some k ≡ mark_of (get_or l 1 0)) × (length_of k ≤ length l) × (good_kind k l ≡ true)
 unfolding look
 settled-right l k e =
     let z = settled-sized l k e in
@@ -65,6 +64,6 @@ settled-right l k e =
     (m, q, z, g)
 
 -- and what has these settles
-pub right-settles : (l : List ℕ) (k : Kind) → get_or l 0 0 ≡ mark_byte → Of k ≡ mark_of (get_or l 1 0) → length_of k ≤ length l
+pub right-settles : (l : List ℕ) (k : Kind) → get_or l 0 0 ≡ mark_byte → Some k ≡ mark_of (get_or l 1 0) → length_of k ≤ length l
     → good_kind k l ≡ true → look l ≡ Settles k
 right-settles l k m e h g = look-full l k m e h ∙ ap (λ (b : Bool). cond b (Settles k) Loses) g

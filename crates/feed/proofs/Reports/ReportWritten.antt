@@ -1,17 +1,21 @@
 -- The report written into an outbox, part by part. Assumes nothing.
-use Rattle.std.proofs.Common.{◌≡◌, ℕ, ◌%◌, ◌<◌, ◌≤◌, true, false, List, [], ◌∷◌, ◌++◌, length, take, drop, set, sym, refl, ap, ◌∙◌, ap₂, append_assoc, arith, length-append, take-append-drop, length-take-le, take-suc-set, drop-set-lt, le-leb}
-use borrow.Author.Tests.{lt-leb}
+use Rattle.std.proofs.Common.{◌≡◌, ℕ, ◌%◌, ◌≤◌, List, [], ◌∷◌, ◌++◌, length, get_or, take, drop, set, sym, refl, ap, ◌∙◌, ap₂, append_assoc, arith, length-append, take-append-drop, length-take-le, take-suc-set, drop-set-lt}
+use denote.Param.Members.{Mut, Called}
+use Rattle.std.specs.Array.{IsMapOf}
 use borrow.Rule.Slice.PartMut.{put_mid}
 use Rattle.cycle.specs.Size.{string_count, module_count}
 use Rattle.cycle.specs.Answers.{number_of}
+use Rattle.cycle.specs.Banks.{no_bank}
 use Rattle.cycle.specs.declared.answer.Answer.{Answer}
 use Rattle.cycle.specs.declared.banks.Bank.{Bank}
 use Rattle.cycle.specs.declared.hall.Hall.{Hall}
+use Rattle.feed.specs.Bytes.{in_two, parts}
 use Rattle.feed.specs.Size.{strings_from, balance_at, lesser_from, differences_from, report_length}
-use Rattle.feed.specs.Report.{head_of, string_bytes, strings_bytes, balance_of, lesser_bytes, differences_bytes, banks_bytes, report_by}
-use Rattle.feed.specs.Report.{reported_fail, reported_close, report_of, report_shown, fits_in, into_outbox}
+use Rattle.feed.specs.Report.{head_of, string_bytes, strings_bytes, balance_of, word_shown, words_bytes, lesser_bytes, differences_bytes, banks_bytes, report_by}
+use Rattle.feed.specs.Report.{reported_fail, reported_close, report_of, past_shown, report_shown}
 use Rattle.feed.specs.Inside.Showing.{shown_of}
-use Rattle.feed.proofs.Records.Tables.{table_at}
+use Rattle.feed.specs.declared.report.StringShown.{StringShown}
+use Rattle.feed.proofs.Records.Tables.{table_at, mapped_at}
 use Rattle.feed.proofs.Reports.Parts.{parts_same}
 use Rattle.feed.proofs.Reports.Written.{put_next, next-written}
 use Rattle.feed.proofs.Reports.ReportLengths.{head-length, front_length, words-length}
@@ -69,14 +73,14 @@ shown-same a h =
     ap (λ (t : List ℕ). head_of (number_of a) h.n ++ (t ++ banks_bytes h.banks))
     (parts_same _ _ string_count
     (λ s l.
-    ap₂ string_bytes (table_at (reported_fail h) 0 string_count s l) (table_at (reported_close h) 0 string_count s l)))
+    ap (λ (x : StringShown). string_bytes x.fail x.close)
+    (table_at (λ s. record { fail = reported_fail h s; close = reported_close h s }) past_shown string_count s l)))
 
--- ---- into an outbox of any length
-
-module _ (report out : List ℕ) where
-  pub too_short : length out < report_length → (false ≡ fits_in out) × (out ≡ into_outbox report out)
-  too_short l = let e : fits_in out ≡ false = lt-leb report_length (length out) l in (sym e, rw e refl)
-
-  pub fits : (x : List ℕ) → report_length ≤ length out → x ≡ report ++ drop report_length out
-      → (true ≡ fits_in out) × (x ≡ into_outbox report out)
-  fits x l q = let e : fits_in out ≡ true = le-leb report_length (length out) l in (sym e, q ∙ rw e refl)
+-- a word of each bank, as an array that a map made of them
+pub words-mapped : {F : Type 0} (g : Mut F (Bank × Unit {0}) ℕ) (word : Bank → ℕ)
+    → ((x : Bank) (y : ℕ) (p q : F) → Called g p (x, tt) y q → y ≡ word x) → (f : F) (banks : List Bank) (words : List ℕ)
+    → IsMapOf g f banks words module_count → parts module_count (λ m. in_two (get_or words m 0)) ≡ words_bytes word banks
+unfolding words_bytes
+words-mapped g word gives f banks words made =
+    parts_same (λ m. in_two (get_or words m 0)) (word_shown word banks) module_count
+    (λ m b. ap in_two (mapped_at g word gives f banks words module_count m no_bank 0 made b))

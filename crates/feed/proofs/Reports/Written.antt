@@ -1,4 +1,4 @@
--- Bytes written into the outbox: a whole slice, a part behind what stands before it, equal parts one after the other, and what stands
+-- Bytes written into the outbox: a part behind what stands before it, equal parts one after the other, and what stands
 -- after them. Assumes nothing.
 use Rattle.std.proofs.Common.{◌≡◌, ℕ, suc, ◌+◌, ◌-◌, ◌*◌, ◌<◌, ◌≤◌, List, [], ◌∷◌, ◌++◌, length, get_or, take, drop, set, sym, refl, ap, ◌∙◌, ap₂, append_assoc, append-nil, zero-add, mul-add, add-one, arith, length-append, take-append-drop, drop_of_length-le, length-take-le, drop-cons, drop-drop, take_at, drop_at}
 use native.Mathlib.Nat.{add-sub_cancel_left}
@@ -7,11 +7,6 @@ use lib.Seq.{sets, sets-eq, set_at}
 use Rattle.feed.specs.Bytes.{put_over, parts}
 use Rattle.feed.proofs.Records.NumbersInBytes.{put-over}
 use Rattle.feed.proofs.Reports.Parts.{parts-length}
-
--- every place of a slice written, from the first to the last
-pub sets-all : (l vs : List ℕ) → length l ≡ length vs → sets l 0 vs ≡ vs
-sets-all l vs h =
-    sets-eq vs l 0 (omega arith) ∙ ap (λ (t : List ℕ). vs ++ t) (drop_of_length-le l {i = 0 + length vs} (omega arith)) ∙ append-nil vs
 
 -- a part of k elements from the a-th on, put behind what stands before it
 pub put_next : (p d y : List ℕ) (a k : ℕ) → length p ≡ a → put_mid a k (p ++ drop a d) y ≡ p ++ y ++ drop (a + k) d

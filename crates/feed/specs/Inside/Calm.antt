@@ -1,7 +1,7 @@
 -- Calm records: bytes that change nothing but the number, and in a major cycle the good copies and the banks, and their reports. That this
 -- is what a call does is proved (proofs/Calls: Calms, CalmMajors, CalmRuns, Stretches).
 -- Assumes nothing.
-use Rattle.std.specs.Prelude.{◌≡◌, ℕ, ◌+◌, ◌-◌, ◌*◌, ◌/◌, ◌%◌, ◌^◌, ◌<◌, Bool, true, false, cond, not, ◌&&◌, List, ◌++◌, length, take, drop, replicate, ◌==◌, nat_eq, nat_lt, slice_index}
+use Rattle.std.specs.Prelude.{◌≡◌, ℕ, ◌+◌, ◌-◌, ◌*◌, ◌/◌, ◌%◌, ◌^◌, ◌<◌, min, Bool, true, false, cond, not, ◌&&◌, List, ◌++◌, Option, None, Some, length, take, drop, ◌==◌, nat_eq, nat_lt, slice_index}
 use Rattle.bits.specs.Bit.{word_bits, any, every}
 use Rattle.cycle.specs.Size.{string_count, jet_count, major_every, last_count}
 use Rattle.cycle.specs.Each.{each}
@@ -12,7 +12,7 @@ use Rattle.cycle.specs.Calm.{all_calm, mapped_words, follows, all_quiet, finds_n
 use Rattle.cycle.specs.declared.banks.Bank.{Bank}
 use Rattle.cycle.specs.declared.answer.Answer.{Answer}
 use Rattle.cycle.specs.declared.hall.Hall.{Hall}
-use Rattle.cycle.specs.declared.string.OnSlots.{OnSlots}
+use Rattle.cycle.specs.declared.slots.OnSlots.{OnSlots}
 use Rattle.cycle.specs.declared.values.Sample.{Sample}
 use Rattle.feed.specs.Size.{mark_byte, minor_mark, major_mark, major_length, balance_at, quantities_from}
 use Rattle.feed.specs.Size.{minor_length, wire_at, count_at, strings_from, report_length, outbox_needed}
@@ -24,7 +24,6 @@ use Rattle.feed.specs.Report.{banks_bytes}
 use Rattle.feed.specs.Values.{sample_at, minor_of, temperatures_at, requests_at, quantities_of}
 use Rattle.feed.specs.Inside.LowFirst.{turned}
 use Rattle.feed.specs.declared.calm.Calm.{Calm}
-use Rattle.feed.specs.declared.calm.Kept.{Kept}
 
 -- commanded and pressure words with their bytes in the other order, as they stand in the record: bits are told byte by byte
 abbrev pub turned_sample : Sample → Sample
@@ -42,12 +41,16 @@ turned_words words = each string_count (λ s x. turned x) 0 words
 abbrev pub TurnedJets : Hall → List ℕ → Type 0
 TurnedJets h turned = (turned ≡ turned_words (mapped_words h.masks)) × Words (mapped_words h.masks)
 
+-- what is carried on is the hall's
+abbrev pub CalmOf : Hall → Calm → Type 0
+CalmOf h calm = (calm.jets ≡ mapped_words h.masks) × TurnedJets h calm.turned
+
 -- calm records can follow a taken one that left nothing in the store and nothing under way
-unfoldable pub calm_after : Answer → ℕ → Hall → Calm
+unfoldable pub calm_after : Answer → ℕ → Hall → Option Calm
 calm_after a count h =
     cond (is_taken a && (count == 0 && all_calm string_count h.strings))
-    (record { yes = true; jets = mapped_words h.masks; turned = turned_words (mapped_words h.masks) })
-    (record { yes = false; jets = replicate string_count 0; turned = replicate string_count 0 })
+    (Some (record { jets = mapped_words h.masks; turned = turned_words (mapped_words h.masks) }))
+    None
 
 -- the bytes are a good minor record of the next cycle that finds nothing
 unfoldable pub passes : Hall → List ℕ → Bool
@@ -63,10 +66,6 @@ tested_at test size from piece = cond (nat_lt (length piece - from) size) false 
 abbrev pub passes_at : Hall → ℕ → List ℕ → Bool
 passes_at h from piece = tested_at (passes h) minor_length from piece
 
--- the least of two
-abbrev pub least : ℕ → ℕ → ℕ
-least a b = cond (nat_lt a b) a b
-
 -- the minor cycles after number n, before the next major one; none where the count may end among them
 unfoldable pub minors_ahead : ℕ → ℕ
 minors_ahead n = cond (nat_lt (last_count - n) major_every) 0 (major_every - 1 - n % major_every)
@@ -75,7 +74,7 @@ minors_ahead n = cond (nat_lt (last_count - n) major_every) 0 (major_every - 1 -
 -- that of one report
 unfoldable pub stretch : ℕ → ℕ → ℕ → ℕ
 stretch n fed room =
-    cond (nat_lt room outbox_needed) 0 (least (minors_ahead n) (least (fed / minor_length) ((room - outbox_needed) / report_length)))
+    cond (nat_lt room outbox_needed) 0 (min (minors_ahead n) (min (fed / minor_length) ((room - outbox_needed) / report_length)))
 
 -- a report with another number
 unfoldable pub renumbered : ℕ → List ℕ → List ℕ
@@ -109,7 +108,7 @@ abbrev pub leak_at : List ℕ → List ℕ → ℕ → Bool
 leak_at l jets s = some_leak (slice_index jets s) (temperatures_at l (temperatures_from + temperatures_length * s))
 
 -- steps 5 to 8 find nothing in string s but what its temperatures say
-abbrev pub none_found : List ℕ → ℕ → OnSlots → ℕ → ℕ → Bool
+abbrev pub none_found : List ℕ → ℕ → OnSlots ℕ → ℕ → ℕ → Bool
 none_found l jets on close s =
     finds_none jets (sample_at l (samples_from + sample_length * s)) (requests_at l (requests_from + requests_length * s) (drops_from + s)) on close
 
@@ -149,6 +148,11 @@ rebanked banks report = take balance_at report ++ banks_bytes banks
 abbrev pub told_kept : Hall → List ℕ → List ℕ
 told_kept h out = told_behind (λ report. rebanked h.banks (renumbered h.n report)) out
 
--- what is left, if it passes and if not
-abbrev pub kept_by : Bool → Hall → ℕ → List ℕ → Kept
-kept_by b h from piece = record { yes = b; hall = cond b (kept_after h from piece) h }
+-- the hall that is left, if it passes
+abbrev pub kept_by : Bool → Hall → ℕ → List ℕ → Option Hall
+kept_by b h from piece = cond b (Some (kept_after h from piece)) None
+
+-- and the outbox
+abbrev pub told_by : Option Hall → List ℕ → List ℕ
+told_by None out = out
+told_by (Some h) out = told_kept h out

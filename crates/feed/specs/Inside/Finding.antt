@@ -1,10 +1,11 @@
 -- What the reader's private functions do, as far as it is not said in Reader: which bytes are passed over or looked at in the piece itself,
 -- and how many are copied at once. None of it shows in what a call does. Assumes nothing.
-use Rattle.std.specs.Prelude.{◌≡◌, ℕ, suc, ◌+◌, ◌-◌, ◌≤◌, min, Bool, true, false, cond, not, ◌&&◌, ◌||◌, List, [], ◌∷◌, ◌++◌, length, take, drop, ◌==◌, nat_le, nat_lt, slice_index, slice_range}
+use Rattle.std.specs.Prelude.{◌≡◌, ℕ, suc, ◌+◌, ◌-◌, ◌≤◌, min, Bool, cond, not, ◌&&◌, ◌||◌, Option, None, Some, is_some, List, [], ◌∷◌, ◌++◌, length, take, drop, ◌==◌, nat_le, nat_lt, slice_index, slice_range}
 use Rattle.bits.specs.Bit.{every}
 use Rattle.feed.specs.Size.{mark_byte, mark_length}
-use Rattle.feed.specs.Format.{mark_of, length_marked, look, settles, length_shown}
+use Rattle.feed.specs.Format.{mark_of, length_marked, look, settles, length_shown, kind_shown}
 use Rattle.feed.specs.Reader.{settle, reads, store, Stop}
+use Rattle.feed.specs.declared.format.Kind.{Kind}
 use Rattle.feed.specs.declared.reader.Found.{Found}
 
 -- of the next n bytes, those that a mark at the front waits for, but the last
@@ -37,11 +38,10 @@ fills k h (b ∷ p) =
 abbrev pub found_by : Bool → ℕ → Stop → Found
 found_by held n s =
     cond held
-    (record { long = length_shown (look s.left); held = true; at = 0; count = length s.left; used = n - length s.rest })
+    (record { settled = kind_shown (look s.left); at = None; count = length s.left; used = n - length s.rest })
     (record {
-      long = 0;
-      held = false;
-      at = n - length s.rest - length s.left;
+      settled = None;
+      at = Some (n - length s.rest - length s.left);
       count = length s.left;
       used = n - length s.rest;
     })
@@ -60,20 +60,24 @@ filled h piece from =
 
 -- ---- what is found in the end
 
--- what is held is the bytes from `at` to `end`, with a settled record of n bytes at their front
-abbrev pub held_from : ℕ → ℕ → ℕ → Found
-held_from at end n = record { long = n; held = true; at = 0; count = end - at; used = end }
+-- what is held is the bytes from `at` to `end`, with a settled record of this kind at their front, or none
+abbrev pub held_from : ℕ → ℕ → Option Kind → Found
+held_from at end k = record { settled = k; at = None; count = end - at; used = end }
+
+-- the length of the record found, 0 where there is none
+abbrev pub long_of : Found → ℕ
+long_of f = length_marked f.settled
 
 -- where a call stops at s: what is left stands in the piece, or in the store
 pub record FoundAt (s : Stop) (there : Bool) (piece : List ℕ) (f : Found) (kept : List ℕ) : Type 0 where
-  pub long : f.long ≡ length_shown (look s.left)
+  pub settled : f.settled ≡ kind_shown (look s.left)
   pub used : f.used ≡ length piece - length s.rest
-  pub place : f.held ≡ not there
-  pub in_store : f.held ≡ true → (f.at ≡ 0) × (f.count ≡ length s.left) × (kept ≡ store s.left)
-  pub in_piece : f.held ≡ false
-      → (f.at ≡ f.used - f.long) × (f.count ≡ 0) × (kept ≡ store [])
-      × (s.left ≡ take f.long (drop f.at piece))
-      × (f.at + f.long ≤ length piece)
+  pub place : is_some f.at ≡ there
+  pub in_store : f.at ≡ None → (f.count ≡ length s.left) × (kept ≡ store s.left)
+  pub in_piece : (at : ℕ) → f.at ≡ Some at
+      → (at ≡ f.used - long_of f) × (f.count ≡ 0) × (kept ≡ store [])
+      × (s.left ≡ take (long_of f) (drop at piece))
+      × (at + long_of f ≤ length piece)
 
 -- the record settled is all that is left
 abbrev pub alone : Stop → Bool

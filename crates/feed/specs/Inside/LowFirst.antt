@@ -1,10 +1,7 @@
 -- A number's bytes with the low one first, as the code makes them on the way. Assumes nothing.
 use Rattle.std.specs.Prelude.{ℕ, ◌+◌, ◌*◌, ◌/◌, ◌%◌, List, [], ◌∷◌}
 
--- in two bytes, and in four
-abbrev pub low_two : ℕ → List ℕ
-low_two w = w % 256 ∷ w / 256 % 256 ∷ []
-
+-- in four bytes
 abbrev pub low_four : ℕ → List ℕ
 low_four w = w % 256 ∷ w / 256 % 256 ∷ w / 65536 % 256 ∷ w / 16777216 % 256 ∷ []
 

@@ -8,7 +8,6 @@ use Rattle.feed.specs.declared.report.Shown.{Shown}
 unfoldable pub shown_of : Hall → Shown
 shown_of h = record {
   n = h.n;
-  fails = table string_count (reported_fail h);
-  closes = table string_count (reported_close h);
+  strings = table string_count (λ s. record { fail = reported_fail h s; close = reported_close h s });
   banks = h.banks;
 }

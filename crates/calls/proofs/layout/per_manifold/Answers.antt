@@ -1,13 +1,11 @@
 -- `calls::layout::per_manifold` meets its contract. Assumes nothing.
-use mathlib.Core.Path.{refl}
-use Rattle.feed.proofs.Records.Tables.{filling-none, filling-next, filling-end}
+use Rattle.std.proofs.Common.{◌+◌, rules}
+use Rattle.cycle.specs.Size.{manifold_count}
+use Rattle.calls.specs.Layout.{word_in}
+use Rattle.feed.proofs.Records.Tables.{table-made}
 use Rattle.calls.proofs.layout.per_manifold.Goals as goal
 
-pub loop-m-preserved : goal.loop-m-preserved
-loop-m-preserved c = filling-next _ _ _ _ _ _ refl c.loop-m.invariant c.loop-m-test.true c.word_in.ensures
-
 pub returns : goal.returns
-returns c = filling-end _ _ _ _ _ refl c.loop-m.invariant c.loop-m-test.false
-
-pub loop-m-init : goal.loop-m-init
-loop-m-init c = filling-none _ _ _
+returns c =
+    let a = c.args in
+    table-made _ (λ m. word_in a.b.now a.i (a.k + m)) _ (λ i x q h. search rules) _ manifold_count c.from_fn.ensures.items

@@ -11,6 +11,8 @@ use Rattle.cycle.specs.declared.string.Standing.{Standing}
 use Rattle.feed.specs.Size.{word_length}
 use Rattle.feed.proofs.Reports.Written.{put_next}
 use Rattle.calls.specs.Layout.{standing_words, standing_length, in_words, words_of}
+use Rattle.feed.specs.Bytes.{in_four}
+use Rattle.feed.proofs.Reports.PutEach.{each-parts}
 use Rattle.calls.proofs.Laid.{words-length, words_append}
 use Rattle.calls.proofs.layout.put_standing.Goals as goal
 
@@ -25,17 +27,10 @@ laid d y s x l n ey es =
     ∙ ap₂ (λ (p q : List ℕ). p ++ q) ey (es ∙ ap (λ (k : ℕ). in_words k x.saved) n)
     ∙ words_append first x.saved 2 manifold_count refl
 
-pub put_words-requires-2 : goal.put_words-requires-2
-put_words-requires-2 c =
+pub returns-clause-b_after : goal.returns-clause-b_after
+returns-clause-b_after c =
     let a = c.args in
     let e : length a.x.saved ≡ manifold_count = search rules in
-    rw e (search rules)
-
-pub returns : goal.returns
-returns c =
-    let a = c.args in
-    let e : length a.x.saved ≡ manifold_count = search rules in record {
-      b_after = laid a.b.now c.put_words.new.b c.put_words-2.new.b a.x (search rules) e
-          c.put_words.ensures c.put_words-2.ensures;
-      saved_len = e;
-    }
+    laid a.b.now c.put_each.new.b c.put_each-2.new.b a.x c.requires e
+    (c.put_each.ensures ∙ each-parts in_four (a.x.fail ∷ a.x.valves ∷ []) 0 2 refl)
+    (c.put_each-2.ensures ∙ each-parts in_four a.x.saved 0 (length a.x.saved) refl)

@@ -4,4 +4,4 @@ use Rattle.cycle.proofs.Differences.{wrapped}
 use Rattle.cycle.proofs.banks.fuel_less_oxidizer.Goals as goal
 
 pub returns : goal.returns
-returns c = let q = c.args.q in omega (arith, wrapped q (search rules) (search rules), c.wrapping_sub_u16.ensures)
+returns c = let q = c.args.q in omega (arith, wrapped q (search rules) (search rules))

@@ -2,7 +2,7 @@
 use Rattle.std.proofs.Common.{rules}
 use Rattle.cycle.specs.Each.{each}
 use Rattle.cycle.specs.Banks.{weighed_all}
-use Rattle.cycle.proofs.Loops.{turned, ended}
+use Rattle.cycle.proofs.Loops.{turned}
 use Rattle.cycle.proofs.banks.weighed_all.Goals as goal
 
 pub loop-m-init : goal.loop-m-init
@@ -11,9 +11,4 @@ loop-m-init c = search rules
 
 pub loop-m-preserved : goal.loop-m-preserved
 unfolding weighed_all
-loop-m-preserved c = (search rules, turned _ _ _ _ _ _ c.loop-m.invariant.1 c.weighed.ensures)
-
-pub returns : goal.returns
-returns c =
-    let a = c.args in
-    ended (λ m. weighed_all m a.q a.banks) c.loop-m.invariant c.loop-m-test.false
+loop-m-preserved c = turned _ _ _ _ _ _ c.loop-m.invariant c.weighed.ensures

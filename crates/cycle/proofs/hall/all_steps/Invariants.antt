@@ -1,7 +1,7 @@
 -- `cycle::hall::all_steps` meets its contract. Assumes nothing.
-use Rattle.std.proofs.Common.{◌≡◌, ℕ, ◌-◌, ◌≤◌, List, get_or}
+use Rattle.std.proofs.Common.{◌≡◌, ℕ, List, get_or}
 use Rattle.bits.specs.Bit.{bit}
-use Rattle.cycle.specs.Size.{string_count, manifold_count}
+use Rattle.cycle.specs.Size.{manifold_count}
 use Rattle.cycle.specs.Each.{each}
 use Rattle.cycle.specs.Map.{masks_of}
 use Rattle.cycle.specs.Hall.{past_string, no_sample}
@@ -16,7 +16,4 @@ abbrev pub fourth : List Masks → ℕ → List Sample → ℕ → StringState �
 fourth masks path samples s x = fourth_step manifold_count (masks_of masks s) (bit s path) (get_or samples s no_sample).valves x
 
 abbrev pub invariant-loop-s : goal.invariant-loop-s
-invariant-loop-s l = (l.s ≤ string_count) × (l.next ≡ each l.s (fourth l.masks l.path l.samples) past_string l.initial.next)
-
-abbrev pub decreases-loop-s : goal.decreases-loop-s
-decreases-loop-s l = string_count - l.s
+invariant-loop-s l = l.stepped ≡ each l.s (fourth l.masks l.path l.r.samples) past_string l.initial.stepped

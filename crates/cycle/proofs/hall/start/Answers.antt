@@ -21,7 +21,7 @@ module _ (masks : List Masks) {r : Bool} {h : Hall} where
 
 pub returns-then-refused : goal.returns-then-refused
 returns-then-refused c =
-    refused-start _ c.refused.ensures c.if-refused.true c.none-none.ensures c.fresh.ensures
+    refused-start _ c.refused.ensures c.if-refused.true c.none.ensures c.fresh.ensures
 
 pub returns-else-refused : goal.returns-else-refused
 returns-else-refused c = taken_start _ c.refused.ensures c.if-refused.false c.fresh-else-refused.ensures

@@ -9,14 +9,11 @@ unfolding swept
 loop-k-init c = search rules
 
 pub loop-k-preserved : goal.loop-k-preserved
-loop-k-preserved c = (
-  search rules,
-  c.with_bit-w.ensures
-      ∙ sweep-turn c.args.t.words c.loop-k.k (omega (arith, c.loop-k-test.true))
-      c.loop-k.invariant.1 c.cold-b.ensures,
-)
+loop-k-preserved c =
+    c.with_bit-w.ensures
+    ∙ sweep-turn c.args.t.words c.loop-k.k (omega (arith, c.loop-k-test.true)) c.loop-k.invariant c.cold.ensures
 
 pub returns : goal.returns
 returns c =
     let t = c.args.t in
-    ended (λ k. swept k t.words) c.loop-k.invariant c.loop-k-test.false ∙ swept_all t
+    ended (λ k. swept k t.words) (c.loop-k.auto.k-end, c.loop-k.invariant) c.loop-k-test.false ∙ swept_all t

@@ -1,6 +1,6 @@
 -- `cycle::leak::leak_walk` meets its contract: the lowest jet that is left is visited and flipped, until none is left. Assumes nothing.
 use Rattle.std.proofs.Common.{◌≡◌, ℕ, ◌+◌, ◌*◌, ◌%◌, ◌^◌, ◌<◌, Bool, true, false, get_or, sym, ap, ◌∙◌, ⊎_elim, lt_trans, eq-zero-or-pos, one-mul, arith, lit<, shl_exact}
-use lib.Bits.{bit_and, bit_or, bit_xor, or_zero_l}
+use lib.Bits.{bit_and, bit_or, bit_xor}
 use lib.Count.{count_trailing_zeros}
 use Rattle.bits.specs.Bit.{word_bits, bit, plus_bit}
 use Rattle.bits.proofs.Yes.{or_left, or_right, or-neither}
@@ -10,9 +10,6 @@ use Rattle.cycle.specs.Words.{jet_leaks, leak_word}
 use Rattle.cycle.proofs.MappedLeaks.{walk_turn, walk_ends}
 use Rattle.cycle.proofs.leak.leak_walk.Goals as goal
 use Rattle.cycle.proofs.leak.leak_walk.Goals.{then-cold, else-cold+else-cold-2, then-cold-via-then-cold, then-cold-via-else-cold+then-cold-2}
-
-pub loop-rest-init : goal.loop-rest-init
-loop-rest-init c = (c.ranges.jets.fits, or_zero_l _)
 
 -- ---- the jet visited is one that is left
 
@@ -75,39 +72,3 @@ pub returns : goal.returns
 returns c =
     let args = c.args in
     walk_ends args.jets c.loop-rest.w (leak_word args.t) c.loop-rest-test.false c.loop-rest.invariant.1
-
-pub overflow_cast-j : goal.overflow_cast-j
-overflow_cast-j c = record { fits = omega (arith, within c.loop-rest-test.true c.loop-rest.invariant.0) }
-
-pub overflow_mul-j : goal.overflow_mul-j
-overflow_mul-j c = record { fits = omega (arith, within c.loop-rest-test.true c.loop-rest.invariant.0) }
-
-pub offset_bounds-words-j : goal.offset_bounds-words-j
-offset_bounds-words-j c = record { fits = omega (arith, within c.loop-rest-test.true c.loop-rest.invariant.0) }
-
-pub bounds-words-j : goal.bounds-words-j
-bounds-words-j c = omega (arith, within c.loop-rest-test.true c.loop-rest.invariant.0)
-
-pub overflow_mul-j-else-cold : goal.overflow_mul-j-else-cold
-overflow_mul-j-else-cold c = record { fits = omega (arith, within c.loop-rest-test.true c.loop-rest.invariant.0) }
-
-pub overflow_add-j : goal.overflow_add-j
-overflow_add-j c = record { fits = omega (arith, within c.loop-rest-test.true c.loop-rest.invariant.0) }
-
-pub offset_bounds-words-j-else-cold : goal.offset_bounds-words-j-else-cold
-offset_bounds-words-j-else-cold c = record { fits = omega (arith, within c.loop-rest-test.true c.loop-rest.invariant.0) }
-
-pub bounds-words-j-else-cold : goal.bounds-words-j-else-cold
-bounds-words-j-else-cold c = omega (arith, within c.loop-rest-test.true c.loop-rest.invariant.0)
-
-pub overflow_cast-w : goal.overflow_cast-w
-overflow_cast-w c = record { fits = omega (arith, within c.loop-rest-test.true c.loop-rest.invariant.0) }
-
-pub overflow_shl-w : goal.overflow_shl-w
-overflow_shl-w c = within c.loop-rest-test.true c.loop-rest.invariant.0
-
-pub overflow_cast-rest : goal.overflow_cast-rest
-overflow_cast-rest c = record { fits = omega (arith, within c.loop-rest-test.true c.loop-rest.invariant.0) }
-
-pub overflow_shl-rest : goal.overflow_shl-rest
-overflow_shl-rest c = within c.loop-rest-test.true c.loop-rest.invariant.0

@@ -2,16 +2,12 @@
 use Rattle.std.proofs.Common.{rules}
 use Rattle.bits.specs.Bit.{any}
 use Rattle.cycle.specs.Map.{refused}
-use Rattle.cycle.proofs.Loops.{refused-turn, ended}
+use Rattle.cycle.proofs.Loops.{refused-turn}
 use Rattle.cycle.proofs.map.refused.Goals as goal
 
-pub loop-s-init : goal.loop-s-init
+pub loop-m-init : goal.loop-m-init
 unfolding refused any
-loop-s-init c = search rules
+loop-m-init c = search rules
 
-pub loop-s-preserved : goal.loop-s-preserved
-loop-s-preserved c =
-    (search rules, refused-turn c.args.masks c.loop-s.s c.loop-s.invariant.1 c.overlap-found.ensures)
-
-pub returns : goal.returns
-returns c = ended (λ s. refused s c.args.masks) c.loop-s.invariant c.loop-s-test.false
+pub loop-m-preserved : goal.loop-m-preserved
+loop-m-preserved c = refused-turn c.args.masks c.loop-m.m-index c.loop-m.invariant c.overlap-found.ensures

@@ -1,11 +1,7 @@
 -- `cycle::map::refused` meets its contract. Assumes nothing.
-use Rattle.std.proofs.Common.{◌≡◌, ◌-◌, ◌≤◌}
-use Rattle.cycle.specs.Size.{string_count}
+use Rattle.std.proofs.Common.{◌≡◌}
 use Rattle.cycle.specs.Map.{refused}
 use Rattle.cycle.proofs.map.refused.Given as goal
 
-abbrev pub invariant-loop-s : goal.invariant-loop-s
-invariant-loop-s l = (l.s ≤ string_count) × (l.found ≡ refused l.s l.masks)
-
-abbrev pub decreases-loop-s : goal.decreases-loop-s
-decreases-loop-s l = string_count - l.s
+abbrev pub invariant-loop-m : goal.invariant-loop-m
+invariant-loop-m l = l.found ≡ refused l.m-index l.m-items

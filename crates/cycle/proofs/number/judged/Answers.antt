@@ -2,7 +2,7 @@
 use Rattle.std.proofs.Common.{◌≡◌, ℕ, ◌<◌, Bool, true, false, ltb, sym, ap, ◌∙◌, ap₂, arith, le-ltb, lt-ltb}
 use Rattle.cycle.specs.Size.{stale_from}
 use Rattle.cycle.specs.Numbers.{distance, following, judged}
-use Rattle.cycle.specs.declared.number.Verdict.{Verdict}
+use Rattle.cycle.specs.Numbers.{Verdict}
 use Rattle.cycle.proofs.Numbers.{judged-repeat, judged-stale, judged-follows}
 use Rattle.cycle.proofs.number.judged.Goals as goal
 

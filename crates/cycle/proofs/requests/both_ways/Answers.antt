@@ -2,7 +2,7 @@
 use Rattle.std.proofs.Common.{rules}
 use Rattle.bits.specs.Bit.{any}
 use Rattle.cycle.specs.Hall.{both_ways}
-use Rattle.cycle.proofs.Loops.{both-ways-turn, ended}
+use Rattle.cycle.proofs.Loops.{both-ways-turn}
 use Rattle.cycle.proofs.requests.both_ways.Goals as goal
 
 pub loop-s-init : goal.loop-s-init
@@ -12,7 +12,4 @@ loop-s-init c = search rules
 pub loop-s-preserved : goal.loop-s-preserved
 loop-s-preserved c =
     let a = c.args in
-    (search rules, both-ways-turn a.masks a.requests c.loop-s.s c.loop-s.invariant.1 c.string_both_ways-found.ensures)
-
-pub returns : goal.returns
-returns c = ended (λ s. both_ways s c.args.masks c.args.requests) c.loop-s.invariant c.loop-s-test.false
+    both-ways-turn a.masks a.requests c.loop-s.s c.loop-s.invariant c.string_both_ways-found.ensures

@@ -1,7 +1,7 @@
 -- `cycle::sets::behind_closed` meets its contract. Assumes nothing.
 use Rattle.std.proofs.Common.{Bool, cond, get_or, rules}
 use Rattle.cycle.specs.Words.{behind_closed}
-use Rattle.cycle.proofs.Loops.{as-asked, ended}
+use Rattle.cycle.proofs.Loops.{as-asked}
 use Rattle.cycle.proofs.BehindClosed.{closed-turn}
 use Rattle.cycle.proofs.sets.behind_closed.Goals as goal
 
@@ -12,14 +12,6 @@ loop-i-init c = search rules
 pub loop-i-preserved : goal.loop-i-preserved
 loop-i-preserved c =
     let at = c.loop-i in
-    let a = c.args in
-    let words = a.masks.words in (
-      search rules,
-      closed-turn words a.valves at.i at.invariant.1
-          (as-asked (λ (b : Bool). cond b 0 (get_or words at.i 0)) c.chosen-w.ensures c.has.ensures),
-    )
-
-pub returns : goal.returns
-returns c =
-    let a = c.args in
-    ended (λ i. behind_closed i a.masks.words a.valves) c.loop-i.invariant c.loop-i-test.false
+    let words = c.args.masks.words in
+    closed-turn words c.args.valves at.i at.invariant
+    (as-asked (λ (b : Bool). cond b 0 (get_or words at.i 0)) c.chosen-w.ensures c.has.ensures)

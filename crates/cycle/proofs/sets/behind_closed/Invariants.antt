@@ -1,11 +1,7 @@
 -- `cycle::sets::behind_closed` meets its contract. Assumes nothing.
-use Rattle.std.proofs.Common.{◌≡◌, ◌-◌, ◌≤◌}
-use Rattle.cycle.specs.Size.{manifold_count}
+use Rattle.std.proofs.Common.{◌≡◌}
 use Rattle.cycle.specs.Words.{behind_closed}
 use Rattle.cycle.proofs.sets.behind_closed.Given as goal
 
 abbrev pub invariant-loop-i : goal.invariant-loop-i
-invariant-loop-i l = (l.i ≤ manifold_count) × (l.w ≡ behind_closed l.i l.words l.valves)
-
-abbrev pub decreases-loop-i : goal.decreases-loop-i
-decreases-loop-i l = manifold_count - l.i
+invariant-loop-i l = l.w ≡ behind_closed l.i l.masks.words l.valves

@@ -1,8 +1,7 @@
 -- `cycle::sets::close_bits` meets its contract. Assumes nothing.
-use Rattle.std.proofs.Common.{◌≡◌, get_or, ◌∙◌, add-one, arith, rules}
-use Rattle.bits.proofs.Words.{pack-next}
+use Rattle.std.proofs.Common.{get_or, ◌∙◌, add-one, arith, rules}
 use Rattle.bits.specs.Bit.{pack}
-use Rattle.cycle.specs.Size.{manifold_count}
+use Rattle.bits.proofs.Words.{pack-next}
 use Rattle.cycle.specs.Words.{asks_close, close_bits}
 use Rattle.cycle.proofs.sets.close_bits.Goals as goal
 
@@ -13,14 +12,9 @@ loop-i-init c = search rules
 pub loop-i-preserved : goal.loop-i-preserved
 unfolding close_bits
 loop-i-preserved c =
-    let a = c.args in (
-      search rules,
-      rw add-one
-          (c.with_bit-w.ensures
-          ∙ pack-next c.loop-i.i c.loop-i.w
-          (λ k. asks_close (get_or a.masks.words k 0) a.recheck a.bad)
-          c.asks_close-asks.result (omega arith) c.loop-i.invariant.1 c.asks_close-asks.ensures),
-    )
-
-pub returns : goal.returns
-returns c = let e : c.loop-i.i ≡ manifold_count = omega arith in cc
+    let a = c.args in
+    rw add-one
+    (c.with_bit-w.ensures
+    ∙ pack-next c.loop-i.i c.loop-i.w
+    (λ k. asks_close (get_or a.masks.words k 0) a.recheck a.bad)
+    c.asks_close.result (omega arith) c.loop-i.invariant c.asks_close.ensures)

@@ -14,18 +14,14 @@ loop-i-init c = search rules
 pub loop-i-preserved : goal.loop-i-preserved
 loop-i-preserved c =
     let a = c.args in
-    let back = c.chosen-back.result in
-    let at = c.loop-i in (
-      search rules,
-      turned (chosen_by back a.kept) 0 a.own at.i at.saved c.chosen.result at.invariant.1
-          (as-asked (λ (b : Bool). cond b (get_or a.kept at.i 0) (get_or at.saved at.i 0)) c.chosen.ensures
-          c.has.ensures),
-    )
+    let at = c.loop-i in
+    turned (chosen_by c.chosen-back.result a.kept) 0 a.own at.i at.saved c.chosen.result at.invariant
+    (as-asked (λ (b : Bool). cond b (get_or a.kept at.i 0) (get_or at.saved at.i 0)) c.chosen.ensures c.has.ensures)
 
 pub returns : goal.returns
 returns c =
     let a = c.args in
-    let back = c.chosen-back in
-    ended (λ i. each i (chosen_by back.result a.kept) 0 a.own) c.loop-i.invariant c.loop-i-test.false
-    ∙ ap (λ (w : ℕ). each manifold_count (chosen_by w a.kept) 0 a.own) back.ensures
+    let at = c.loop-i in
+    ended (λ i. each i (chosen_by c.chosen-back.result a.kept) 0 a.own) (at.auto.i-end, at.invariant) c.loop-i-test.false
+    ∙ ap (λ (w : ℕ). each manifold_count (chosen_by w a.kept) 0 a.own) c.chosen-back.ensures
     ∙ sets-chosen manifold_count a.lost a.kept a.own (search (rules, c.well_formed)) (search (rules, c.well_formed))

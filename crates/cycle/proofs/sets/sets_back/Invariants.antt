@@ -1,7 +1,6 @@
 -- `cycle::sets::sets_back` meets its contract. Assumes nothing.
-use Rattle.std.proofs.Common.{◌≡◌, ℕ, ◌-◌, ◌≤◌, cond, List, get_or}
+use Rattle.std.proofs.Common.{◌≡◌, ℕ, cond, List, get_or}
 use Rattle.bits.specs.Bit.{bit}
-use Rattle.cycle.specs.Size.{manifold_count}
 use Rattle.cycle.specs.Each.{each}
 use Rattle.cycle.proofs.sets.sets_back.Given as goal
 
@@ -10,7 +9,4 @@ abbrev pub chosen_by : ℕ → List ℕ → ℕ → ℕ → ℕ
 chosen_by back kept i x = cond (bit i back) (get_or kept i 0) x
 
 abbrev pub invariant-loop-i : goal.invariant-loop-i
-invariant-loop-i l = (l.i ≤ manifold_count) × (l.saved ≡ each l.i (chosen_by l.back l.kept) 0 l.initial.saved)
-
-abbrev pub decreases-loop-i : goal.decreases-loop-i
-decreases-loop-i l = manifold_count - l.i
+invariant-loop-i l = l.saved ≡ each l.i (chosen_by l.back l.kept) 0 l.initial.saved

@@ -1,13 +1,9 @@
 -- `feed::calm::all_quiet` meets its contract. Assumes nothing.
-use Rattle.std.proofs.Common.{◌≡◌, ℕ, ◌-◌, ◌<◌, ◌≤◌}
+use Rattle.std.proofs.Common.{◌≡◌, ℕ, ◌<◌}
 use Rattle.bits.specs.Bit.{every}
-use Rattle.cycle.specs.Size.{string_count}
 use Rattle.feed.proofs.Calls.Calms.{quiet_at, WordsAt}
 use Rattle.feed.proofs.calm.all_quiet.Given as goal
 
 abbrev pub invariant-loop-k : goal.invariant-loop-k
 invariant-loop-k l =
-    (l.k ≤ string_count) × (l.found ≡ every l.k (quiet_at l.s l.turned l.strings)) × ((j : ℕ) → j < l.k → WordsAt l.s j)
-
-abbrev pub decreases-loop-k : goal.decreases-loop-k
-decreases-loop-k l = string_count - l.k
+    (l.found ≡ every l.k (quiet_at l.s l.turned l.hall.strings)) × ((j : ℕ) → j < l.k → WordsAt l.s j)

@@ -5,6 +5,7 @@ use Rattle.cycle.specs.Size.{string_count}
 use Rattle.cycle.specs.Hall.{no_requests, past_string}
 use Rattle.cycle.specs.Calm.{quiet, finds_none}
 use Rattle.cycle.specs.declared.values.Sample.{Sample}
+use Rattle.cycle.specs.declared.values.Requests.{Requests}
 use Rattle.feed.specs.Size.{path_at}
 use Rattle.feed.specs.Inside.Calm.{turned_sample}
 use Rattle.feed.proofs.Records.TurnedWords.{below_next}
@@ -14,7 +15,7 @@ use Rattle.feed.proofs.calm.all_still.Goals as goal
 
 pub loop-k-init : goal.loop-k-init
 unfolding every
-loop-k-init c = (omega arith, refl, refl, λ j b. absurd (not-suc-le-zero b))
+loop-k-init c = (refl, refl, λ j b. absurd (not-suc-le-zero b))
 
 pub loop-k-preserved : goal.loop-k-preserved
 unfolding every
@@ -22,17 +23,17 @@ loop-k-preserved c =
     let a = c.args in
     let string = get_or a.hall.strings c.loop-k.k past_string in
     let sample = c.sample_at-sample.ensures in
-    let turned = c.turned_sample.ensures in (
-      search rules,
+    let turned = c.turned_sample.ensures in
+    let none : c.default-none.result ≡ no_requests = search rules in (
+      rw add-one
+          (ap₂ (λ (x y : Bool). x && y) c.loop-k.invariant.0
+          (c.is_quiet-quiet.ensures
+          ∙ ap (λ (x : Sample). quiet (get_or a.calm.turned c.loop-k.k 0) x string) (turned.0 ∙ ap turned_sample sample))),
       rw add-one
           (ap₂ (λ (x y : Bool). x && y) c.loop-k.invariant.1
-          (c.is_quiet-quiet.ensures
-          ∙ ap (λ (x : Sample). quiet (get_or a.turned c.loop-k.k 0) x string) (turned.0 ∙ ap turned_sample sample))),
-      rw add-one
-          (ap₂ (λ (x y : Bool). x && y) c.loop-k.invariant.2
           (c.finds_none-still.ensures
-          ∙ ap (λ (x : Sample). finds_none (get_or a.jets c.loop-k.k 0) x no_requests string.on string.close) sample)),
-      below_next (WordsAt a.s.now) c.loop-k.k c.loop-k.invariant.3 (rw sample at turned.1, rw sample at turned.2),
+          ∙ ap₂ (λ (x : Sample) (q : Requests). finds_none (get_or a.calm.jets c.loop-k.k 0) x q string.on string.close) sample none)),
+      below_next (WordsAt a.s.now) c.loop-k.k c.loop-k.invariant.2 (rw sample at turned.1, rw sample at turned.2),
     )
 
 pub returns : goal.returns
@@ -40,9 +41,9 @@ returns c =
     let a = c.args in
     let l = a.s.now in
     let e : c.loop-k.k ≡ string_count = omega arith in
-    let quiet = c.loop-k.invariant.1 ∙ ap (λ n. every n (quiet_at l a.turned a.hall.strings)) e in
-    let still = c.loop-k.invariant.2 ∙ ap (λ n. every n (still_at l a.jets a.hall.strings)) e in
+    let quiet = c.loop-k.invariant.0 ∙ ap (λ n. every n (quiet_at l a.calm.turned a.hall.strings)) e in
+    let still = c.loop-k.invariant.1 ∙ ap (λ n. every n (still_at l a.calm.jets a.hall.strings)) e in
     ap₂ (λ (x y : Bool). x && y)
     (ap (λ (b : Bool). eqb (get_or l path_at 0) 0 && b) quiet
-    ∙ all-quiet-told l a.turned a.hall c.requires.jets_value.1.0 c.requires.jets_value.1.1 (λ s b. c.loop-k.invariant.3 s (omega arith)))
-    (still ∙ all-still-told l a.jets a.hall c.requires.jets_value.0 c.requires.major_length_in_bounds.1)
+    ∙ all-quiet-told l a.calm.turned a.hall c.requires.jets_value.1.0 c.requires.jets_value.1.1 (λ s b. c.loop-k.invariant.2 s (omega arith)))
+    (still ∙ all-still-told l a.calm.jets a.hall c.requires.jets_value.0 c.requires.major_length_in_bounds.1)

@@ -1,5 +1,5 @@
 -- `feed::calm::calm_major` meets its contract. Assumes nothing.
-use Rattle.std.proofs.Common.{◌≡◌, ℕ, ◌+◌, ◌-◌, ◌<◌, true, false, take, drop, sym, refl, ap, ◌∙◌, arith, length-take-le}
+use Rattle.std.proofs.Common.{◌≡◌, ℕ, ◌+◌, ◌-◌, ◌<◌, true, false, Some, take, drop, sym, refl, ap, ◌∙◌, arith, length-take-le}
 use native.Mathlib.Nat.{add-sub_cancel_left}
 use Rattle.cycle.specs.Size.{last_count}
 use Rattle.cycle.specs.Calm.{kept_all}
@@ -57,9 +57,6 @@ returns c =
     let banks = c.kept_all-next.result.banks in
     let n = c.kept_all-next.result.n + 1 in
     rw told (record {
-      value = ap (λ (h : Hall). record {
-        yes = true;
-        hall = record { n = h.n + 1; masks = h.masks; strings = h.strings; banks = h.banks };
-      }) whole;
+      value = ap (λ (h : Hall). Some (record { n = h.n + 1; masks = h.masks; strings = h.strings; banks = h.banks })) whole;
       out_after = told-behind (λ r. rebanked banks (renumbered n r)) a.out.now _ c.tell_banks.ensures;
     })

@@ -80,7 +80,7 @@ returns-then-some_leaks c =
           c.if-not-follows.false,
       sym c.none_asked.ensures ∙ c.if-not-none_asked.false,
       sym c.all_still.ensures ∙ c.if-not-all_still.false,
-      leaks l c.args.jets (mapped_words c.args.hall.masks) c.some_leaks.result true c.requires.jets_value.0 c.some_leaks.ensures
+      leaks l c.args.calm.jets (mapped_words c.args.hall.masks) c.some_leaks.result true c.requires.jets_value.0 c.some_leaks.ensures
           c.if-some_leaks.true,
     )
 
@@ -95,6 +95,6 @@ returns c =
           c.if-not-follows.false,
       sym c.none_asked.ensures ∙ c.if-not-none_asked.false,
       sym c.all_still.ensures ∙ c.if-not-all_still.false,
-      leaks l c.args.jets (mapped_words c.args.hall.masks) c.some_leaks.result false c.requires.jets_value.0 c.some_leaks.ensures
+      leaks l c.args.calm.jets (mapped_words c.args.hall.masks) c.some_leaks.result false c.requires.jets_value.0 c.some_leaks.ensures
           c.if-some_leaks.false,
     ) c.good_major.ensures

@@ -1,7 +1,7 @@
 -- `feed::calm::stretch` meets its contract. Assumes nothing.
-use Rattle.std.proofs.Common.{◌∙◌, ap₂, arith, le-ltb, lt-ltb}
+use Rattle.std.proofs.Common.{min, ◌∙◌, ap₂, arith, le-ltb, lt-ltb}
 use Rattle.feed.specs.Size.{outbox_needed}
-use Rattle.feed.specs.Inside.Calm.{least, stretch}
+use Rattle.feed.specs.Inside.Calm.{stretch}
 use Rattle.feed.proofs.calm.stretch.Goals as goal
 
 pub returns-then-room-lt-OUTBOX_NEEDED : goal.returns-then-room-lt-OUTBOX_NEEDED
@@ -13,4 +13,4 @@ unfolding stretch
 returns c =
     let a = c.args in
     rw (le-ltb a.room outbox_needed (omega (arith, c.if-room-lt-OUTBOX_NEEDED.false)))
-    (c.least-2.ensures ∙ ap₂ least c.minors_ahead.ensures c.least.ensures)
+    (c.min-2.ensures ∙ ap₂ min c.minors_ahead.ensures c.min.ensures)

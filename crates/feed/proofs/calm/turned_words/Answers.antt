@@ -1,34 +1,24 @@
 -- `feed::calm::turned_words` meets its contract. Assumes nothing.
-use Rattle.std.proofs.Common.{◌≡◌, ℕ, ◌^◌, ◌<◌, List, get_or, sym, refl, ap, ◌∙◌, not-suc-le-zero, arith, rules}
+use Rattle.std.proofs.Common.{◌≡◌, ℕ, ◌^◌, ◌<◌, List, length, get_or, sym, ◌∙◌, arith, ext_get_or, rules}
 use Rattle.bits.specs.Bit.{word_bits}
+use Rattle.cycle.specs.Size.{string_count}
 use Rattle.cycle.specs.Each.{each}
-use Rattle.cycle.proofs.Each.{each-above}
-use Rattle.cycle.proofs.Loops.{turned as stored, ended}
+use Rattle.cycle.proofs.Each.{each-length, each_at}
 use Rattle.feed.specs.Inside.LowFirst.{turned}
 use Rattle.feed.specs.Inside.Calm.{turned_words}
-use Rattle.feed.proofs.Records.TurnedWords.{below_next}
 use Rattle.feed.proofs.calm.turned_words.Goals as goal
 
-pub loop-s-init : goal.loop-s-init
-unfolding each
-loop-s-init c = ((omega arith, refl), λ j b. absurd (not-suc-le-zero b))
-
-pub loop-s-preserved : goal.loop-s-preserved
-loop-s-preserved c =
-    let words = c.args.words in
-    let s = c.loop-s.s in
-    let i = c.loop-s.invariant in
-    let same : get_or c.loop-s.turned s 0 ≡ get_or words s 0 =
-    ap (λ (m : List ℕ). get_or m s 0) i.0.1 ∙ each-above (λ k x. turned x) 0 words s s (omega arith) in
-    let t = c.turned32.ensures.value in (
-      (search rules, stored (λ k x. turned x) 0 words s c.loop-s.turned c.turned32.result i.0.1 (t.0 ∙ ap turned (sym same))),
-      below_next (λ j. get_or words j 0 < 2 ^ word_bits) s i.1 t.1,
-    )
+all-turned : (words l : List ℕ) → length words ≡ string_count → length l ≡ string_count
+    → ((i : ℕ) → i < string_count → get_or l i 0 ≡ turned (get_or words i 0)) → l ≡ turned_words words
+unfolding turned_words
+all-turned words l n m told =
+    let rule : ℕ → ℕ → ℕ = λ s x. turned x in
+    ext_get_or 0 l (each string_count rule 0 words) (m ∙ sym (each-length rule 0 words string_count ∙ n))
+    (λ i h. let b : i < string_count = omega arith in told i b ∙ sym (each_at rule 0 words string_count i b (omega arith)))
 
 pub returns : goal.returns
-unfolding turned_words
 returns c =
-    let words = c.args.words in (
-      ended (λ s. each s (λ k x. turned x) 0 words) c.loop-s.invariant.0 c.loop-s-test.false,
-      λ s b. c.loop-s.invariant.1 s (omega (arith, c.loop-s.invariant.0.0)),
-    )
+    let words = c.args.words in
+    let told : (i : ℕ) → i < string_count → (get_or c.map.result i 0 ≡ turned (get_or words i 0)) × (get_or words i 0 < 2 ^ word_bits)
+    = (λ i b. let w = c.map.ensures.items.at i 0 0 b in search rules) in
+    (all-turned words c.map.result (search rules) c.map.ensures.items.long (λ i b. (told i b).0), λ i b. (told i b).1)

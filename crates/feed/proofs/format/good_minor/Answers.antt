@@ -1,10 +1,10 @@
 -- `feed::format::good_minor` meets its contract: what is left without a partial sum is right where the sum is, and only there.
 -- Assumes nothing.
-use Rattle.std.proofs.Common.{◌≡◌, ℕ, List, take, sym, ◌∙◌, arith, length-take-le}
+use Rattle.std.proofs.Common.{◌≡◌, ℕ, ◌+◌, ◌-◌, ◌%◌, List, take, sym, ◌∙◌, arith, rules, length-take-le}
 use Rattle.feed.specs.Size.{minor_summed}
 use Rattle.feed.specs.Bytes.{two}
 use Rattle.feed.specs.Format.{sum_of}
-use Rattle.feed.proofs.Records.Sums.{rest-right, rest-of-right, part-most, minor-sum, minor-bad}
+use Rattle.feed.proofs.Records.Sums.{rest-right, rest-of-right, rest-back, part-most, minor-sum, minor-bad}
 use Rattle.feed.proofs.format.good_minor.Goals as goal
 use Rattle.feed.proofs.format.good_minor.Goals.{After-sum-middle}
 
@@ -23,19 +23,26 @@ bytes c = c.args.s.now
 abbrev Right : goal.After-sum-middle → Type 0
 Right c = two (bytes c) minor_summed ≡ sum_of (take minor_summed (bytes c))
 
--- and the same without the last span
+-- what is left without the last span, and without the middle one
+abbrev rest : goal.After-sum-middle → ℕ
+rest c = (c.two_at.result + (65536 - c.sum.result)) % 65536
+
+abbrev less : goal.After-sum-middle → ℕ
+less c = (rest c + (65536 - c.sum-middle.result)) % 65536
+
+-- and is it right
 abbrev RestRight : goal.After-sum-middle → Type 0
-RestRight c = c.wrapping_sub_u16-rest.result ≡ sum_of (take last (bytes c))
+RestRight c = rest c ≡ sum_of (take last (bytes c))
 
 right : (c : goal.After-sum-middle) → RestRight c → Right c
 right c =
-    rest-right (bytes c) last 32 _ _ _ c.sum.ensures
-    (c.wrapping_sub_u16-rest.ensures.value ∙ c.two_at.ensures)
+    rest-right (bytes c) last 32 _ _ (rest c) c.sum.ensures
+    (rest-back c.two_at.result c.sum.result (search rules) (search rules) ∙ c.two_at.ensures)
 
 of_right : (c : goal.After-sum-middle) → Right c → RestRight c
 of_right c =
-    rest-of-right (bytes c) last 32 _ _ _ c.sum.ensures
-    (c.wrapping_sub_u16-rest.ensures.value ∙ c.two_at.ensures) c.wrapping_sub_u16-rest.type_inv
+    rest-of-right (bytes c) last 32 _ _ (rest c) c.sum.ensures
+    (rest-back c.two_at.result c.sum.result (search rules) (search rules) ∙ c.two_at.ensures) (omega arith)
 
 pub returns-then-rest-middle : goal.returns-then-rest-middle
 returns-then-rest-middle c =
@@ -46,14 +53,17 @@ returns-then-rest-middle c =
 pub slice_bounds-sum-end-3 : goal.slice_bounds-sum-end-3
 slice_bounds-sum-end-3 c = sym (length-take-le middle c.args.s.now (omega arith))
 
-pub returns-then-wrapping_sub_u16-sum : goal.returns-then-wrapping_sub_u16-sum
-returns-then-wrapping_sub_u16-sum c =
-    let only = rest-of-right (bytes (goal.at.returns-then-wrapping_sub_u16-sum c).After-sum-middle) middle 16 _ _ _ c.sum-middle.ensures c.wrapping_sub_u16.ensures.value
-    c.wrapping_sub_u16.type_inv in
-    minor-bad (bytes (goal.at.returns-then-wrapping_sub_u16-sum c).After-sum-middle) (λ e. c.if-wrapping_sub_u16-sum.true (only (of_right (goal.at.returns-then-wrapping_sub_u16-sum c).After-sum-middle e) ∙ sym c.sum-2.ensures))
+pub returns-then-rest-middle-2 : goal.returns-then-rest-middle-2
+returns-then-rest-middle-2 c =
+    let d = (goal.at.returns-then-rest-middle-2 c).After-sum-middle in
+    let only = rest-of-right (bytes d) middle 16 (rest d) _ (less d) c.sum-middle.ensures
+    (rest-back (rest d) c.sum-middle.result (omega arith) (search rules)) (omega arith) in
+    minor-bad (bytes d) (λ e. c.if-rest-middle-2.true (only (of_right d e) ∙ sym c.sum-2.ensures))
 
 pub returns : goal.returns
 returns c =
-    let rest = rest-right (bytes (goal.at.returns c).After-sum-middle) middle 16 _ _ _ c.sum-middle.ensures c.wrapping_sub_u16.ensures.value
-    (c.if-wrapping_sub_u16-sum.false ∙ c.sum-2.ensures) in
-    c.reserved_zero.ensures ∙ minor-sum (bytes (goal.at.returns c).After-sum-middle) (right (goal.at.returns c).After-sum-middle rest)
+    let d = (goal.at.returns c).After-sum-middle in
+    let left = rest-right (bytes d) middle 16 (rest d) _ (less d) c.sum-middle.ensures
+    (rest-back (rest d) c.sum-middle.result (omega arith) (search rules))
+    (c.if-rest-middle-2.false ∙ c.sum-2.ensures) in
+    c.reserved_zero.ensures ∙ minor-sum (bytes d) (right d left)

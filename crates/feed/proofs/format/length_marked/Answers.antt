@@ -3,5 +3,5 @@ use Rattle.std.proofs.Common.{sym, ap, ◌∙◌}
 use Rattle.feed.specs.Format.{length_marked}
 use Rattle.feed.proofs.format.length_marked.Goals as goal
 
-pub returns-in-Of : goal.returns-in-Of
-returns-in-Of c = c.length_of.ensures ∙ sym (ap length_marked c.in-Of.is)
+pub returns-in-Some : goal.returns-in-Some
+returns-in-Some c = c.length_of.ensures ∙ sym (ap length_marked c.in-Some.is)

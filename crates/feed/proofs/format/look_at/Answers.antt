@@ -23,10 +23,10 @@ pub returns-then-s-eq1 : goal.returns-then-s-eq1
 unfolding look
 returns-then-s-eq1 c = simp (ne_eqb _ _ c.if-s-eq0.false, eq-eqb _ _ c.if-s-ne-MARK.false, eq-eqb _ _ c.if-s-eq1.true)
 
-pub returns-in-NoMark : goal.returns-in-NoMark
+pub returns-in-None : goal.returns-in-None
 unfolding marked_look
-returns-in-NoMark c = sym (mark (goal.at.returns-in-NoMark c).After-mark_of-mark ∙ simp c.in-NoMark.is)
+returns-in-None c = sym (mark (goal.at.returns-in-None c).After-mark_of-mark ∙ simp c.in-None.is)
 
-pub returns-in-Of : goal.returns-in-Of
+pub returns-in-Some : goal.returns-in-Some
 unfolding marked_look
-returns-in-Of c = c.full_look.ensures ∙ sym (mark (goal.at.returns-in-Of c).After-mark_of-mark ∙ simp c.in-Of.is)
+returns-in-Some c = c.full_look.ensures ∙ sym (mark (goal.at.returns-in-Some c).After-mark_of-mark ∙ simp c.in-Some.is)

@@ -1,13 +1,9 @@
 -- `feed::format::quantities_right` meets its contract. Assumes nothing.
-use Rattle.std.proofs.Common.{◌≡◌, ◌+◌, ◌-◌, ◌*◌, ◌≤◌}
+use Rattle.std.proofs.Common.{◌≡◌, ◌+◌, ◌*◌}
 use Rattle.bits.specs.Bit.{every}
-use Rattle.cycle.specs.Size.{module_count}
 use Rattle.feed.specs.Size.{quantities_from, quantities_length}
 use Rattle.feed.specs.Format.{two_right}
 use Rattle.feed.proofs.format.quantities_right.Given as goal
 
 abbrev pub invariant-loop-m : goal.invariant-loop-m
-invariant-loop-m l = (l.m ≤ module_count) × (l.right ≡ every l.m (λ i. two_right l.s (quantities_from + quantities_length * i)))
-
-abbrev pub decreases-loop-m : goal.decreases-loop-m
-decreases-loop-m l = module_count - l.m
+invariant-loop-m l = l.right ≡ every l.m (λ i. two_right l.s (quantities_from + quantities_length * i))

@@ -1,24 +1,17 @@
 -- `feed::masks::masks_at` meets its contract. Assumes nothing.
-use Rattle.std.proofs.Common.{refl, ap, rules}
+use Rattle.std.proofs.Common.{◌+◌, ◌*◌, sym, subst, ap, rules}
 use Rattle.cycle.specs.Size.{manifold_count}
+use Rattle.feed.specs.Size.{word_length}
+use Rattle.feed.specs.Bytes.{four}
 use Rattle.feed.specs.Masks.{mask_words_at}
-use Rattle.feed.proofs.Records.Tables.{filling-none, filling-next, filling-end}
-use Rattle.feed.proofs.Records.MapWords.{word_none, word_set}
+use Rattle.feed.specs.Inside.MapWords.{WordMasks}
+use Rattle.feed.proofs.Records.Tables.{table-made}
+use Rattle.feed.proofs.Records.MapWords.{mask-words}
 use Rattle.feed.proofs.masks.masks_at.Goals as goal
-
-pub loop-k-preserved : goal.loop-k-preserved
-loop-k-preserved c =
-    let l = c.loop-k in (
-      filling-next _ _ _ _ _ _ refl l.invariant.0 c.loop-k-test.true c.read_four.ensures,
-      word_set l.words l.k c.read_four.result (search rules) l.invariant.1,
-    )
 
 pub returns : goal.returns
 unfolding mask_words_at
-returns c = (
-  ap (λ w. record { words = w }) (filling-end _ _ _ _ _ refl c.loop-k.invariant.0 c.loop-k-test.false),
-  c.loop-k.invariant.1,
-)
-
-pub loop-k-init : goal.loop-k-init
-loop-k-init c = (filling-none _ _ _, word_none manifold_count)
+returns c =
+    let a = c.args in
+    let e = table-made _ (λ k. four a.s.now (a.i + word_length * k)) _ (λ i x q h. search rules) _ manifold_count c.from_fn-words.ensures.items in
+    (ap (λ w. record { words = w }) e, subst WordMasks (sym e) (mask-words a.s.now (λ i. (c.type_inv.s i).fits) a.i))

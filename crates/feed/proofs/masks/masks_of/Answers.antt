@@ -1,24 +1,16 @@
 -- `feed::masks::masks_of` meets its contract. Assumes nothing.
-use Rattle.std.proofs.Common.{refl}
+use Rattle.std.proofs.Common.{◌*◌, sym, subst, rules}
 use Rattle.cycle.specs.Size.{string_count}
-use Rattle.feed.specs.Masks.{masks_of_bytes}
-use Rattle.feed.proofs.Records.Tables.{filling-none, filling-next, filling-end}
-use Rattle.feed.proofs.Records.MapWords.{map-none, map-set}
+use Rattle.cycle.specs.Map.{FitMap}
+use Rattle.feed.specs.Size.{masks_length}
+use Rattle.feed.specs.Masks.{masks_at, masks_of_bytes}
+use Rattle.feed.proofs.Records.Tables.{table-made}
+use Rattle.feed.proofs.Records.MapWords.{map-words}
 use Rattle.feed.proofs.masks.masks_of.Goals as goal
-
-pub loop-k-preserved : goal.loop-k-preserved
-loop-k-preserved c =
-    let l = c.loop-k in (
-      filling-next _ _ _ _ _ _ refl l.invariant.0 c.loop-k-test.true c.masks_at.ensures.0,
-      map-set l.all l.k c.masks_at.result c.masks_at.ensures.1 l.invariant.1,
-    )
 
 pub returns : goal.returns
 unfolding masks_of_bytes
-returns c = (
-  filling-end _ _ _ _ _ refl c.loop-k.invariant.0 c.loop-k-test.false,
-  λ s i b l. c.loop-k.invariant.1 s i,
-)
-
-pub loop-k-init : goal.loop-k-init
-loop-k-init c = (filling-none _ _ _, map-none string_count c.none-none.result c.none-none.ensures)
+returns c =
+    let s = c.args.s.now in
+    let e = table-made _ (λ k. masks_at s (masks_length * k)) _ (λ i x q h. search rules) _ string_count c.from_fn.ensures.items in
+    (e, subst FitMap (sym e) (map-words s (λ i. (c.type_inv.s i).fits)))

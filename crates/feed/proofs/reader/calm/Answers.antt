@@ -24,8 +24,5 @@ marked c k e =
 pub returns-then-n-s : goal.returns-then-n-s
 returns-then-n-s c = marked (goal.at.returns-then-n-s c).After-length_marked-n 0 (search rules)
 
-pub returns-then-k-left : goal.returns-then-k-left
-returns-then-k-left c = marked (goal.at.returns-then-k-left c).After-length_marked-n _ (search rules)
-
 pub returns : goal.returns
 returns c = marked (goal.at.returns c).After-length_marked-n _ (search rules)

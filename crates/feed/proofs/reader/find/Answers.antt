@@ -4,22 +4,22 @@ use Rattle.feed.specs.Reader.{store}
 use Rattle.feed.proofs.Reading.Stores.{length-store}
 use Rattle.feed.proofs.Reading.Finding.{Ready, ready-none, ready-finds, filled-finds, count-within, cleared-empty, filled-ready}
 use Rattle.feed.proofs.reader.find.Goals as goal
-use Rattle.feed.proofs.reader.find.Goals.{then-count-gt0+else-f, else-count-gt0, Joined-count-gt0}
+use Rattle.feed.proofs.reader.find.Goals.{then-count-gt0+in-Some, else-count-gt0, Joined-count-gt0}
 
-pub returns-then-f : goal.returns-then-f
-returns-then-f c =
+pub returns-in_default : goal.returns-in_default
+returns-in_default c =
     let e = c.fill-f.ensures in
-    filled-finds _ _ _ c.requires.count_le_most_held.2 _ _ e.value e.b_after c.if-f.true
+    filled-finds _ _ _ c.requires.count_le_most_held.2 _ _ e.value e.b_after c.in_default.is
 
-pub slice_bounds-clear-end : goal.slice_bounds-clear-end
-slice_bounds-clear-end c =
+pub slice_bounds-fill-end : goal.slice_bounds-fill-end
+slice_bounds-fill-end c =
     let e = c.fill-f.ensures in
     let n = c.fill-f.auto.b ∙ c.requires.b_len in
     let m = count-within _ _ _ c.requires.count_le_most_held.2 _ _ e.value e.b_after n in
     omega arith
 
-pub slice_bounds-clear-end-then-count-gt0 : goal.slice_bounds-clear-end-then-count-gt0
-slice_bounds-clear-end-then-count-gt0 c =
+pub slice_bounds-fill-end-then-count-gt0 : goal.slice_bounds-fill-end-then-count-gt0
+slice_bounds-fill-end-then-count-gt0 c =
     sym (length-take-le c.fill-f.result.count c.fill-f.new.b (let e = c.fill-f.ensures in let n = c.fill-f.auto.b ∙ c.requires.b_len in let m = count-within _ _ _ c.requires.count_le_most_held.2 _ _ e.value e.b_after n in omega arith))
 
 -- where the arms meet: the store is empty, and the search in the piece can begin
@@ -35,11 +35,11 @@ joined c =
     let a = c.args in
     let p = c.requires.count_le_most_held in
     elim c.if-count-gt0.branch [
-      | then-count-gt0+else-f w ↦
+      | then-count-gt0+in-Some w ↦
           let e = w.fill-f.ensures in
           let n = w.fill-f.auto.b ∙ c.requires.b_len in (
-            w.b-is ∙ cleared-empty _ _ _ p.2 _ _ e.value e.b_after n w.clear.new.s w.clear.ensures,
-            rw (w.at-is, w.taken-is) (filled-ready _ _ _ p.2 _ _ e.value e.b_after n w.if-f.false),
+            w.b-is ∙ cleared-empty _ _ _ p.2 _ _ e.value e.b_after n w.fill.new.self (w.fill.ensures.after (λ y e. e)),
+            rw (w.at-is, w.taken-is) (filled-ready _ _ _ p.2 _ _ e.value e.b_after n w.in-Some.place w.in-Some.is),
           )
       | else-count-gt0 w ↦
           let z : a.count ≡ 0 = omega (arith, w.if-count-gt0.false) in

@@ -10,12 +10,12 @@ use Rattle.feed.proofs.reader.hold.Goals.{Start}
 long : (c : goal.Start) → length c.args.b.now ≡ store_length
 long c = ap length c.requires.b_value ∙ length-store [] (omega arith)
 
-pub slice_bounds-copy-end : goal.slice_bounds-copy-end
-slice_bounds-copy-end c = let e = long (goal.at.slice_bounds-copy-end c).Start in let p = c.requires.at_le_end in omega arith
+pub slice_bounds-copy_from_slice-end : goal.slice_bounds-copy_from_slice-end
+slice_bounds-copy_from_slice-end c = let e = long (goal.at.slice_bounds-copy_from_slice-end c).Start in let p = c.requires.at_le_end in omega arith
 
-pub slice_bounds-copy-end-2 : goal.slice_bounds-copy-end-2
-slice_bounds-copy-end-2 c =
-    let e = long (goal.at.slice_bounds-copy-end-2 c).Start in
+pub slice_bounds-copy_from_slice-end-2 : goal.slice_bounds-copy_from_slice-end-2
+slice_bounds-copy_from_slice-end-2 c =
+    let e = long (goal.at.slice_bounds-copy_from_slice-end-2 c).Start in
     let p = c.requires.at_le_end in
     sym (length-take-le _ c.args.b.now (omega arith))
 
@@ -26,18 +26,18 @@ part-long c =
     let p = c.requires.at_le_end in
     length-take-le _ (drop c.args.at c.args.piece.now) (rw (length-drop c.args.at c.args.piece.now) (omega arith))
 
-pub copy-requires : goal.copy-requires
-copy-requires c =
-    let e = long (goal.at.copy-requires c).Start in
+pub copy_from_slice-requires : goal.copy_from_slice-requires
+copy_from_slice-requires c =
+    let e = long (goal.at.copy_from_slice-requires c).Start in
     let p = c.requires.at_le_end in
-    length-take-le _ c.args.b.now (omega arith) ∙ sym (part-long (goal.at.copy-requires c).Start)
+    length-take-le _ c.args.b.now (omega arith) ∙ sym (part-long (goal.at.copy_from_slice-requires c).Start)
 
 pub returns : goal.returns
 returns c =
     let a = c.args in
     let n = a.end - a.at in
-    let y = c.copy.new.to in
-    let e : y ≡ take n (drop a.at a.piece.now) = c.copy.ensures in
+    let y = c.copy_from_slice.new.self in
+    let e : y ≡ take n (drop a.at a.piece.now) = c.copy_from_slice.ensures.after in
     let p = c.requires.at_le_end in
     let f : n ≤ store_length = p.2 in
     record {

@@ -13,20 +13,20 @@ pub loop-at-preserved : goal.loop-at-preserved
 loop-at-preserved c =
     let piece = c.args.piece.now in
     let at = c.loop-at.at in
-    let yes = c.if-not-all_noise.false in
+    let yes = c.if-all_noise.true in
     let e : all_noise (take 16 (drop at piece)) ≡ true = rw (add-sub_cancel_left at 16) at (sym c.all_noise.ensures ∙ yes) in
     next-behind piece _ at c.loop-at.invariant 16 (omega arith) e
 
 pub loop-at-2-init : goal.loop-at-2-init
 loop-at-2-init c = c.loop-at.invariant
 
-pub returns-then-piece-at-eq-MARK : goal.returns-then-piece-at-eq-MARK
-returns-then-piece-at-eq-MARK c =
-    next-found _ _ _ c.loop-at-2.invariant (search rules) c.if-piece-at-eq-MARK.true
+pub returns-else-piece-at-ne-MARK : goal.returns-else-piece-at-ne-MARK
+returns-else-piece-at-ne-MARK c =
+    next-found _ _ _ c.loop-at-2.invariant (search rules) c.if-piece-at-ne-MARK.false
 
 pub loop-at-2-preserved : goal.loop-at-2-preserved
 loop-at-2-preserved c =
-    next-other _ _ _ c.loop-at-2.invariant (search rules) c.if-piece-at-eq-MARK.false
+    next-other _ _ _ c.loop-at-2.invariant (search rules) c.if-piece-at-ne-MARK.true
 
-pub returns : goal.returns
-returns c = next-none _ _ _ c.loop-at-2.invariant (search rules)
+pub returns-after-loop-at-2 : goal.returns-after-loop-at-2
+returns-after-loop-at-2 c = next-none _ _ _ c.loop-at-2.invariant (search rules)

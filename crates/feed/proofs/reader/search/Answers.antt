@@ -1,18 +1,18 @@
 -- `feed::reader::search` meets its contract. The loop's invariant: the store is as it was, and what is held and still to be read gives what
 -- was to be read at the start. Assumes nothing.
-use Rattle.std.proofs.Common.{◌≡◌, ℕ, ◌+◌, ◌-◌, ◌≤◌, ◌⊎◌, List, [], length, get_or, take, drop, sym, refl, ap, ◌∙◌, inl, inr, arith, length-drop, length-take-le}
+use Rattle.std.proofs.Common.{◌≡◌, ℕ, ◌+◌, ◌-◌, ◌≤◌, max, ◌⊎◌, ⊎_elim, List, [], length, get_or, take, drop, sym, refl, ap, ◌∙◌, inl, inr, arith, length-drop, length-take-le, Some}
 use native.Mathlib.Nat.{add-sub_cancel_left}
 use Rattle.feed.specs.Size.{mark_byte}
 use Rattle.feed.specs.Format.{mark_of, length_of, good_kind, look}
 use Rattle.feed.specs.Reader.{store}
 use Rattle.feed.specs.declared.format.Kind.{Kind}
-use Rattle.feed.specs.declared.format.Mark.TheVariants.{Of}
 use Rattle.feed.specs.declared.format.Look.TheVariants.{Waits}
+use Rattle.feed.proofs.Records.Lengths.{below_or}
 use Rattle.feed.proofs.Reading.Noise.{noise-within}
 use Rattle.feed.proofs.Reading.Passing.{passing-start, passing-other, passing-no-mark, passing-lost}
 use Rattle.feed.proofs.Reading.Passing.{end-waits, one-waits, kind-waits, waiting-fits, waiting-found, held_found, here_found}
 use Rattle.feed.proofs.reader.search.Goals as goal
-use Rattle.feed.proofs.reader.search.Goals.{then-high-end, else-high-end, else-loop-at-test, then-loop-at-test+else-piece-at-ne-MARK+then-piece-at-lt-MARK_LENGTH, then-loop-at-test+else-piece-at-ne-MARK+else-piece-at-lt-MARK_LENGTH+in-Of+then-piece-at, After-good, At-loop-at, Else-piece-at, Left-loop-at}
+use Rattle.feed.proofs.reader.search.Goals.{else-loop-at-test, then-loop-at-test+else-piece-at-ne-MARK+then-piece-at-lt-MARK_LENGTH, then-loop-at-test+else-piece-at-ne-MARK+else-piece-at-lt-MARK_LENGTH+in-Some+then-piece-at, After-good, At-loop-at, Else-piece-at, Left-loop-at}
 
 pub loop-at-init : goal.loop-at-init
 loop-at-init c =
@@ -35,9 +35,9 @@ pub loop-at-preserved-then-piece-at-ne-MARK : goal.loop-at-preserved-then-piece-
 loop-at-preserved-then-piece-at-ne-MARK c =
     (c.loop-at.invariant.0, passing-other _ _ _ _ c.loop-at.invariant.1 (omega arith) c.if-piece-at-ne-MARK.true _ c.next_mark-at.ensures)
 
-pub loop-at-preserved-in-NoMark : goal.loop-at-preserved-in-NoMark
-loop-at-preserved-in-NoMark c =
-    let none = sym c.in-NoMark.is ∙ c.mark_of.ensures in
+pub loop-at-preserved-in-None : goal.loop-at-preserved-in-None
+loop-at-preserved-in-None c =
+    let none = sym c.in-None.is ∙ c.mark_of.ensures in
     (c.loop-at.invariant.0, passing-no-mark _ _ _ _ c.loop-at.invariant.1 c.if-piece-at-ne-MARK.false c.if-piece-at-lt-MARK_LENGTH.false none)
 
 -- ---- the mark of a kind, and all bytes of its record
@@ -49,13 +49,13 @@ abbrev at : goal.Else-piece-at → ℕ
 at c = c.loop-at.at
 
 abbrev kind : goal.Else-piece-at → Kind
-kind c = c.in-Of.k
+kind c = c.in-Some.k
 
 first : (c : goal.Else-piece-at) → get_or (piece c) (at c) 0 ≡ mark_byte
 first c = c.if-piece-at-ne-MARK.false
 
-second : (c : goal.Else-piece-at) → Of (kind c) ≡ mark_of (get_or (piece c) (at c + 1) 0)
-second c = sym c.in-Of.is ∙ c.mark_of.ensures
+second : (c : goal.Else-piece-at) → Some (kind c) ≡ mark_of (get_or (piece c) (at c + 1) 0)
+second c = sym c.in-Some.is ∙ c.mark_of.ensures
 
 enough : (c : goal.Else-piece-at) → length_of (kind c) ≤ length (piece c) - at c
 enough c = rw c.length_of-long.ensures at c.if-piece-at.false
@@ -69,10 +69,10 @@ good-requires c =
 
 -- what is said of it
 judged : (c : goal.After-good)
-    → c.good.result ≡ good_kind c.in-Of.k (take (length_of c.in-Of.k) (drop c.loop-at.at c.args.piece.now))
+    → c.good.result ≡ good_kind c.in-Some.k (take (length_of c.in-Some.k) (drop c.loop-at.at c.args.piece.now))
 judged c =
     c.good.ensures
-    ∙ ap (λ (n : ℕ). good_kind c.in-Of.k (take n (drop c.loop-at.at c.args.piece.now)))
+    ∙ ap (λ (n : ℕ). good_kind c.in-Some.k (take n (drop c.loop-at.at c.args.piece.now)))
     (add-sub_cancel_left c.loop-at.at _ ∙ c.length_of-long.ensures)
 
 -- the store is empty still
@@ -84,7 +84,7 @@ hold-requires c =
     let t = c.loop-at.invariant.1 in
     record {
       b_value = empty (goal.at.hold-requires c).At-loop-at;
-      at_le_end = (omega (arith, c.if-end-high.true), omega (arith, t.taken), omega (arith, t.fits));
+      at_le_end = (omega (arith, c.if-end-high.true), omega (arith, t.taken, c.max-high.ensures, c.if-end-high.true), omega (arith, t.fits, c.max-high.ensures, c.if-end-high.true));
     }
 
 pub shape_of-b-then-end-high : goal.shape_of-b-then-end-high
@@ -94,9 +94,10 @@ shape_of-b-then-end-high c =
 pub returns-then-end-high : goal.returns-then-end-high
 returns-then-end-high c =
     let held = c.hold.ensures in
-    rw held.value
+    let same : c.max-high.result ≡ c.loop-at.high = omega (arith, c.max-high.ensures, c.if-end-high.true) in
+    rw (held.value, same)
     (held_found _ _ _ _ c.loop-at.invariant.1 (first (goal.at.returns-then-end-high c).Else-piece-at) (kind (goal.at.returns-then-end-high c).Else-piece-at) (second (goal.at.returns-then-end-high c).Else-piece-at) (enough (goal.at.returns-then-end-high c).Else-piece-at) (sym (judged (goal.at.returns-then-end-high c).After-good) ∙ c.if-good.true) _
-    c.length_of-long.ensures c.if-end-high.true _ held.b_after)
+    c.length_of-long.ensures (omega (arith, c.if-end-high.true)) _ (rw same at held.b_after))
 
 pub shape_of-b-then-good : goal.shape_of-b-then-good
 shape_of-b-then-good c = ap length c.loop-at.invariant.0
@@ -104,23 +105,19 @@ shape_of-b-then-good c = ap length c.loop-at.invariant.0
 pub returns-then-good : goal.returns-then-good
 returns-then-good c =
     here_found _ _ _ _ c.loop-at.invariant.1 (first (goal.at.returns-then-good c).Else-piece-at) (kind (goal.at.returns-then-good c).Else-piece-at) (second (goal.at.returns-then-good c).Else-piece-at) (enough (goal.at.returns-then-good c).Else-piece-at) (sym (judged (goal.at.returns-then-good c).After-good) ∙ c.if-good.true) _
-    c.length_of-long.ensures c.if-end-high.false _ (empty (goal.at.returns-then-good c).At-loop-at)
+    c.length_of-long.ensures (omega (arith, c.max-high.ensures, c.if-end-high.false)) _ (empty (goal.at.returns-then-good c).At-loop-at)
+
+-- the higher of two
+higher : (a b m : ℕ) → m ≡ max a b → (a ≤ m) × (b ≤ m) × ((m ≡ a) ⊎ (m ≡ b))
+higher a b m e = (omega arith, omega arith, ⊎_elim (λ h. inr (omega arith)) (λ h. inl (omega arith)) (below_or a b))
 
 pub loop-at-preserved : goal.loop-at-preserved
 loop-at-preserved c =
     let n = c.length_of-long.ensures in
-    let end = c.loop-at.at + length_of c.in-Of.k in
-    let w : (c.loop-at.high ≤ c.if-high-end.high) × (end ≤ c.if-high-end.high)
-    × ((c.if-high-end.high ≡ c.loop-at.high) ⊎ (c.if-high-end.high ≡ end)) =
-    elim c.if-high-end.branch [
-      | then-high-end w ↦
-          let e : c.if-high-end.high ≡ end = w.high-is ∙ ap (λ (i : ℕ). c.loop-at.at + i) n in
-          (omega (arith, w.if-high-end.true), omega arith, inr e)
-      | else-high-end w ↦ (omega arith, omega (arith, w.if-high-end.false, w.high-is), inl w.high-is)
-    ] in (
+    let w = higher _ _ _ (c.max-high.ensures ∙ ap (λ (i : ℕ). max c.loop-at.high (c.loop-at.at + i)) n) in (
       c.loop-at.invariant.0,
       passing-lost _ _ _ _ c.loop-at.invariant.1 (first (goal.at.loop-at-preserved c).Else-piece-at) (kind (goal.at.loop-at-preserved c).Else-piece-at) (second (goal.at.loop-at-preserved c).Else-piece-at) (enough (goal.at.loop-at-preserved c).Else-piece-at)
-          (sym (judged (goal.at.loop-at-preserved c).After-good) ∙ c.if-good.false) c.if-high-end.high w.0 w.1 w.2,
+          (sym (judged (goal.at.loop-at-preserved c).After-good) ∙ c.if-good.false) c.max-high.result w.0 w.1 w.2,
     )
 
 -- ---- the reader waits
@@ -133,8 +130,8 @@ waits c =
       | else-loop-at-test w ↦ end-waits _ _ w.loop-at-test.false
       | then-loop-at-test+else-piece-at-ne-MARK+then-piece-at-lt-MARK_LENGTH w ↦
           one-waits _ _ _ _ t w.if-piece-at-ne-MARK.false w.if-piece-at-lt-MARK_LENGTH.true
-      | then-loop-at-test+else-piece-at-ne-MARK+else-piece-at-lt-MARK_LENGTH+in-Of+then-piece-at w ↦
-          kind-waits _ _ _ _ t w.if-piece-at-ne-MARK.false w.in-Of.k (sym w.in-Of.is ∙ w.mark_of.ensures)
+      | then-loop-at-test+else-piece-at-ne-MARK+else-piece-at-lt-MARK_LENGTH+in-Some+then-piece-at w ↦
+          kind-waits _ _ _ _ t w.if-piece-at-ne-MARK.false w.in-Some.k (sym w.in-Some.is ∙ w.mark_of.ensures)
           w.if-piece-at-lt-MARK_LENGTH.false
           (rw w.length_of-long.ensures at w.if-piece-at.true)
     ]

@@ -1,9 +1,11 @@
 -- `feed::reader::shift` meets its contract. Assumes nothing.
-use Rattle.std.proofs.Common.{arith}
-use Rattle.feed.proofs.Reading.Moves.{shifted}
+use Rattle.std.proofs.Common.{◌∙◌, arith}
+use Rattle.feed.proofs.Reading.Moves.{moved_down, shifted}
 use Rattle.feed.proofs.reader.shift.Goals as goal
 
 pub returns : goal.returns
 returns c =
-    shifted c.args.s.now c.move_down.new.s c.clear.new.s
-    c.args.k (omega arith) c.move_down.ensures c.clear.ensures
+    let s = c.args.s.now in
+    let k = c.args.k in
+    shifted s c.copy_within.new.self c.fill.new.self k (omega arith) (c.copy_within.ensures.after ∙ moved_down s k (omega arith))
+    (c.fill.ensures.after (λ y e. e))

@@ -5,7 +5,6 @@ use Rattle.cycle.specs.Banks.{no_bank}
 use Rattle.cycle.specs.declared.banks.Bank.{Bank}
 use Rattle.feed.specs.Size.{oxidizer_from}
 use Rattle.feed.specs.Report.{balance_of}
-use Rattle.cycle.proofs.Loops.{ended}
 use Rattle.feed.proofs.report.balance_of.Goals as goal
 
 -- one turn sets a module's two bits
@@ -20,7 +19,4 @@ loop-m-init c = search rules
 
 pub loop-m-preserved : goal.loop-m-preserved
 loop-m-preserved c =
-    (search rules, both_bits c.args.banks c.loop-m.m c.loop-m.invariant.1 c.with_bit-w.ensures c.with_bit-w-in-loop-m.ensures)
-
-pub returns : goal.returns
-returns c = ended (λ m. balance_of m c.args.banks) c.loop-m.invariant c.loop-m-test.false
+    both_bits c.args.banks c.loop-m.m c.loop-m.invariant c.with_bit-w.ensures c.with_bit-w-in-loop-m.ensures

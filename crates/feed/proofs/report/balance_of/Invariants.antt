@@ -1,11 +1,7 @@
 -- `feed::report::balance_of` meets its contract. Assumes nothing.
-use Rattle.std.proofs.Common.{◌≡◌, ◌-◌, ◌≤◌}
-use Rattle.cycle.specs.Size.{module_count}
+use Rattle.std.proofs.Common.{◌≡◌}
 use Rattle.feed.specs.Report.{balance_of}
 use Rattle.feed.proofs.report.balance_of.Given as goal
 
 abbrev pub invariant-loop-m : goal.invariant-loop-m
-invariant-loop-m l = (l.m ≤ module_count) × (l.w ≡ balance_of l.m l.banks)
-
-abbrev pub decreases-loop-m : goal.decreases-loop-m
-decreases-loop-m l = module_count - l.m
+invariant-loop-m l = l.w ≡ balance_of l.m l.banks

@@ -1,26 +1,13 @@
 -- `feed::report::put_differences` meets its contract. Assumes nothing.
-use Rattle.std.proofs.Common.{◌+◌, ◌*◌, refl, arith, rules}
+use Rattle.std.proofs.Common.{ℕ, ◌+◌, ◌*◌, List, ◌++◌, take, drop, ap, ◌∙◌, rules}
 use Rattle.cycle.specs.Size.{module_count}
-use Rattle.feed.specs.Size.{differences_from, difference_length}
-use Rattle.feed.specs.Report.{word_shown, words_bytes}
-use Rattle.feed.proofs.Reports.Written.{put-part, putting-none, putting-next, putting-end}
+use Rattle.feed.specs.Size.{differences_from, quantity_length}
+use Rattle.feed.proofs.Reports.ReportWritten.{words-mapped}
 use Rattle.feed.proofs.report.put_differences.Goals as goal
 
-pub loop-m-preserved : goal.loop-m-preserved
-loop-m-preserved c =
-    let a = c.args in
-    let y = c.put_two.new.s in
-    let e =
-    put-part (word_shown (λ b. b.difference) a.banks c.loop-m.m) c.loop-m.out y (differences_from + difference_length * c.loop-m.m)
-    (differences_from + difference_length * c.loop-m.m + difference_length) refl (search rules) c.put_two.ensures in
-    putting-next a.out.now differences_from difference_length module_count _ c.loop-m.out y c.loop-m.m (λ k. refl)
-    (omega (arith, c.requires)) c.loop-m.invariant c.loop-m-test.true e (search rules)
-
 pub returns : goal.returns
-unfolding words_bytes
 returns c =
-    let a = c.args in
-    putting-end a.out.now differences_from difference_length module_count _ _ _ c.loop-m.invariant c.loop-m-test.false
-
-pub loop-m-init : goal.loop-m-init
-loop-m-init c = putting-none _ _ _ _ _
+    let out = c.args.out.now in
+    c.put_words.ensures
+    ∙ ap (λ (t : List ℕ). take differences_from out ++ (t ++ drop (differences_from + quantity_length * module_count) out))
+    (words-mapped _ (λ b. b.difference) (λ x y p q k. search rules) _ c.args.banks c.map.result c.map.ensures.items)

@@ -11,7 +11,7 @@ unfolding string_bytes
 returns c =
     let a = c.args in
     let y = c.put_four.new.s in
-    let e : y ≡ in_four a.fail =
-    put-part (in_four a.fail) a.s.now y 0 word_length refl (search rules) c.put_four.ensures in
-    set_last a.s.now y word_length (a.close % 256) (ap length e) (search rules)
-    ∙ ap (λ (t : List ℕ). t ++ (a.close % 256 ∷ [])) e
+    let e : y ≡ in_four a.x.fail =
+    put-part (in_four a.x.fail) a.s.now y 0 word_length refl (search rules) c.put_four.ensures in
+    set_last a.s.now y word_length (a.x.close % 256) (ap length e) (search rules)
+    ∙ ap (λ (t : List ℕ). t ++ (a.x.close % 256 ∷ [])) e

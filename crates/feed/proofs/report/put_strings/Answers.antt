@@ -2,7 +2,7 @@
 use Rattle.std.proofs.Common.{arith, rules}
 use Rattle.cycle.specs.Size.{string_count}
 use Rattle.feed.specs.Size.{strings_from, string_part}
-use Rattle.feed.specs.Report.{word_at, string_bytes, strings_bytes}
+use Rattle.feed.specs.Report.{fail_shown, close_shown, string_bytes, strings_bytes}
 use Rattle.feed.proofs.Reports.Written.{putting-none, putting-next, putting-end}
 use Rattle.feed.proofs.Reports.ReportLengths.{string-length}
 use Rattle.feed.proofs.report.put_strings.Goals as goal
@@ -14,13 +14,13 @@ pub loop-s-preserved : goal.loop-s-preserved
 loop-s-preserved c =
     let a = c.args in
     let y = c.put_string.new.s in
-    putting-next a.out.now strings_from string_part string_count (λ k. string_bytes (word_at a.fails k) (word_at a.closes k)) c.loop-s.out y
-    c.loop-s.s (λ k. string-length (word_at a.fails k) (word_at a.closes k)) (omega (arith, c.requires)) c.loop-s.invariant
-    c.loop-s-test.true c.put_string.ensures (search rules)
+    putting-next a.out.now strings_from string_part string_count (λ k. string_bytes (fail_shown a.strings k) (close_shown a.strings k)) c.loop-s.out y
+    c.loop-s.s (λ k. string-length (fail_shown a.strings k) (close_shown a.strings k)) (omega (arith, c.requires)) c.loop-s.invariant
+    (omega arith) c.put_string.ensures (search rules)
 
 pub returns : goal.returns
 unfolding strings_bytes
 returns c =
     let a = c.args in
-    putting-end a.out.now strings_from string_part string_count (λ k. string_bytes (word_at a.fails k) (word_at a.closes k)) _ _
-    c.loop-s.invariant c.loop-s-test.false
+    putting-end a.out.now strings_from string_part string_count (λ k. string_bytes (fail_shown a.strings k) (close_shown a.strings k)) _ _
+    c.loop-s.invariant (omega arith)

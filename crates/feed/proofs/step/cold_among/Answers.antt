@@ -18,8 +18,8 @@ loop-k-preserved c =
     let w = c.low_two_at-w in
     let place : ℕ = a.i + temperature_length * l.k in
     let more =
-    cold-more a.s.now place w.result l.small l.below_zero _ w.ensures.0 w.ensures.1 w.ensures.2 l.invariant.1 in
-    (search rules, rw add-one more)
+    cold-more a.s.now place w.result l.small l.below_zero _ w.ensures.0 w.ensures.1 w.ensures.2 l.invariant in
+    rw add-one more
 
 pub returns : goal.returns
 unfolding cold_among

@@ -11,7 +11,7 @@ loop-k-init c = search rules
 
 pub loop-k-preserved : goal.loop-k-preserved
 unfolding any
-loop-k-preserved c = (search rules, rw add-one (cc))
+loop-k-preserved c = rw add-one (cc)
 
 -- where all jets are mapped
 pub returns-then-all_mapped : goal.returns-then-all_mapped

@@ -1,12 +1,8 @@
 -- `feed::step::some_leaks` meets its contract. Assumes nothing.
-use Rattle.std.proofs.Common.{◌≡◌, ◌-◌, ◌≤◌}
+use Rattle.std.proofs.Common.{◌≡◌}
 use Rattle.bits.specs.Bit.{any}
-use Rattle.cycle.specs.Size.{string_count}
 use Rattle.feed.specs.Inside.Calm.{leak_at}
 use Rattle.feed.proofs.step.some_leaks.Given as goal
 
 abbrev pub invariant-loop-k : goal.invariant-loop-k
-invariant-loop-k l = (l.k ≤ string_count) × (l.found ≡ any l.k (leak_at l.s l.mapped))
-
-abbrev pub decreases-loop-k : goal.decreases-loop-k
-decreases-loop-k l = string_count - l.k
+invariant-loop-k l = l.found ≡ any l.k (leak_at l.s l.mapped)

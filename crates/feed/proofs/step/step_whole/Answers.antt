@@ -5,7 +5,7 @@ use Rattle.cycle.specs.Hall.{minor_taken, major_taken}
 use Rattle.cycle.specs.declared.answer.Answer.TheVariants.{Taken}
 use Rattle.cycle.specs.Calm.{quiet_major, kept_all}
 use Rattle.cycle.specs.declared.hall.Hall.{Hall}
-use Rattle.cycle.specs.declared.number.Verdict.{Verdict}
+use Rattle.cycle.specs.Numbers.{Verdict}
 use Rattle.cycle.specs.declared.values.Minor.{Minor}
 use Rattle.feed.specs.Size.{major_mark, wire_at}
 use Rattle.cycle.proofs.CalmMajors.{major-keeps}
@@ -36,7 +36,7 @@ keeps l h = major-keeps (major_of l) h
 pub returns-then-record_both_ways : goal.returns-then-record_both_ways
 returns-then-record_both_ways c =
     let a = c.args in
-    half-both-ways a.s.now a.hall c.requires _ (verdict (goal.at.returns-then-record_both_ways c).After-judged-v _ c.in-Takes.is)
+    half-both-ways a.s.now a.hall c.requires _ (verdict (goal.at.returns-then-record_both_ways c).After-judged-v _ c.in-Ok.is)
     (sym c.record_both_ways.ensures ∙ c.if-record_both_ways.true)
 
 pub minor_of-r-requires : goal.minor_of-r-requires
@@ -59,7 +59,7 @@ major_of-q-requires c =
 pub returns-then-quiet_major : goal.returns-then-quiet_major
 returns-then-quiet_major c =
     let a = c.args in
-    let next = c.in-Takes.next in
+    let next = c.in-Ok.next in
     let h = c.minor_taken-h.result in
     let quiet : quiet_major (major_of a.s.now) h ≡ true = sym c.quiet_major.ensures ∙ c.if-quiet_major.true in
     ap (stepped_to Taken)
@@ -68,28 +68,28 @@ returns-then-quiet_major c =
     ∙ sym (keeps a.s.now h quiet)
     ∙ ap (major_taken (major_of a.s.now))
     (c.minor_taken-h.ensures ∙ ap (λ (x : Minor). minor_taken x next a.hall) c.minor_of-r.ensures))
-    ∙ half-major a.s.now a.hall c.requires next (verdict (goal.at.returns-then-quiet_major c).After-judged-v _ c.in-Takes.is)
+    ∙ half-major a.s.now a.hall c.requires next (verdict (goal.at.returns-then-quiet_major c).After-judged-v _ c.in-Ok.is)
     (sym c.record_both_ways.ensures ∙ c.if-record_both_ways.false) (eq-eqb _ major_mark c.if-major.true)
 
 pub returns-else-quiet_major : goal.returns-else-quiet_major
 returns-else-quiet_major c =
     let a = c.args in
-    let next = c.in-Takes.next in
+    let next = c.in-Ok.next in
     ap (stepped_to Taken) (c.major_taken.ensures ∙ ap₂ major_taken c.major_of-q.ensures
     (c.minor_taken-h.ensures ∙ ap (λ (x : Minor). minor_taken x next a.hall) c.minor_of-r.ensures))
-    ∙ half-major a.s.now a.hall c.requires next (verdict (goal.at.returns-else-quiet_major c).After-judged-v _ c.in-Takes.is)
+    ∙ half-major a.s.now a.hall c.requires next (verdict (goal.at.returns-else-quiet_major c).After-judged-v _ c.in-Ok.is)
     (sym c.record_both_ways.ensures ∙ c.if-record_both_ways.false) (eq-eqb _ major_mark c.if-major.true)
 
 pub returns-else-major : goal.returns-else-major
 returns-else-major c =
     let a = c.args in
-    let next = c.in-Takes.next in
+    let next = c.in-Ok.next in
     ap (stepped_to Taken)
     (c.minor_taken-h.ensures ∙ ap (λ (x : Minor). minor_taken x next a.hall) c.minor_of-r.ensures)
-    ∙ half-minor a.s.now a.hall c.requires next (verdict (goal.at.returns-else-major c).After-judged-v _ c.in-Takes.is)
+    ∙ half-minor a.s.now a.hall c.requires next (verdict (goal.at.returns-else-major c).After-judged-v _ c.in-Ok.is)
     (sym c.record_both_ways.ensures ∙ c.if-record_both_ways.false) (ne_eqb _ major_mark c.if-major.false)
 
-pub returns-in-Refuses : goal.returns-in-Refuses
-returns-in-Refuses c =
+pub returns-in-Err : goal.returns-in-Err
+returns-in-Err c =
     let a = c.args in
-    half-refused a.s.now a.hall c.requires c.in-Refuses.answer (verdict (goal.at.returns-in-Refuses c).After-judged-v _ c.in-Refuses.is)
+    half-refused a.s.now a.hall c.requires c.in-Err.answer (verdict (goal.at.returns-in-Err c).After-judged-v _ c.in-Err.is)

@@ -9,4 +9,4 @@ unfolding minor_of
 returns c =
     let l = c.args.s.now in
     ap₂ (λ w s. record { wire = w; path = get_or l path_at 0; samples = s }) c.two_at.ensures
-    c.samples_of-samples.ensures
+    c.samples_of.ensures

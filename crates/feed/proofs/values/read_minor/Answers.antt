@@ -8,4 +8,4 @@ use Rattle.feed.proofs.values.read_minor.Goals as goal
 pub returns-then-s-lt-MINOR_LENGTH : goal.returns-then-s-lt-MINOR_LENGTH
 returns-then-s-lt-MINOR_LENGTH c =
     let s = c.args.s.now in
-    c.minor_of.ensures ∙ ap minor_of c.padded-whole.ensures ∙ minor-same (store s) s (padded-at s)
+    c.minor_of.ensures ∙ ap minor_of c.padded.ensures ∙ minor-same (store s) s (padded-at s)

@@ -1,15 +1,13 @@
 -- `feed::values::samples_of` meets its contract. Assumes nothing.
-use Rattle.std.proofs.Common.{refl}
-use Rattle.feed.specs.Values.{samples_of}
-use Rattle.feed.proofs.Records.Tables.{filling-none, filling-next, filling-end}
+use Rattle.std.proofs.Common.{◌+◌, ◌*◌, rules}
+use Rattle.cycle.specs.Size.{string_count}
+use Rattle.feed.specs.Size.{samples_from, sample_length}
+use Rattle.feed.specs.Values.{sample_at, samples_of}
+use Rattle.feed.proofs.Records.Tables.{table-made}
 use Rattle.feed.proofs.values.samples_of.Goals as goal
-
-pub loop-k-preserved : goal.loop-k-preserved
-loop-k-preserved c = filling-next _ _ _ _ _ _ refl c.loop-k.invariant c.loop-k-test.true c.sample_at.ensures
 
 pub returns : goal.returns
 unfolding samples_of
-returns c = filling-end _ _ _ _ _ refl c.loop-k.invariant c.loop-k-test.false
-
-pub loop-k-init : goal.loop-k-init
-loop-k-init c = filling-none _ _ _
+returns c =
+    let s = c.args.s.now in
+    table-made _ (λ k. sample_at s (samples_from + sample_length * k)) _ (λ i x q h. search rules) _ string_count c.from_fn.ensures.items

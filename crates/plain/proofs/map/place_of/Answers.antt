@@ -1,7 +1,5 @@
 -- `plain::map::place_of` meets its contract. Assumes nothing.
-use borrow.Author.Rules.{rules}
-use mathlib.Core.Path.{◌∙◌}
-use Rattle.cycle.proofs.Loops.{ended}
+use Rattle.std.proofs.Common.{rules, ◌∙◌}
 use Rattle.plain.specs.Map.{place_in}
 use Rattle.plain.proofs.Loops.{place_found, place_kept}
 use Rattle.plain.proofs.map.place_of.Goals as goal
@@ -15,15 +13,8 @@ pub loop-i-preserved : goal.loop-i-preserved
 loop-i-preserved c =
     let at = c.loop-i in
     let a = c.args in
-    let looked = c.has.ensures in (
-      search rules,
-      elim c.if-has.branch [
-        | then-has w ↦ w.place-is ∙ place_found a.masks.words a.j at.i looked w.if-has.true
-        | else-has w ↦ w.place-is ∙ place_kept a.masks.words a.j at.i looked w.if-has.false at.invariant.1
-      ],
-    )
-
-pub returns : goal.returns
-returns c =
-    let a = c.args in
-    ended (λ i. place_in i a.masks.words a.j) c.loop-i.invariant c.loop-i-test.false
+    let looked = c.has.ensures in
+    elim c.if-has.branch [
+      | then-has w ↦ w.place-is ∙ place_found a.masks.words a.j at.i looked w.if-has.true
+      | else-has w ↦ w.place-is ∙ place_kept a.masks.words a.j at.i looked w.if-has.false at.invariant
+    ]

@@ -1,39 +1,28 @@
 -- `writer::record::put_drops` meets its contract. Assumes nothing.
-use mathlib.Core.List.{List}
-use mathlib.Core.Path.{◌≡◌, ap, subst, ◌∙◌}
-use Prim.Native.Nat.{ℕ, ◌+◌, ◌-◌, ◌*◌, ◌<◌}
-use native.Mathlib.Omega.{arith}
-use borrow.Author.Rules.{rules}
-use borrow.Rule.Slice.PartMut.{put_mid}
-use lib.ListN.{length}
+use Rattle.std.proofs.Common.{◌≡◌, ℕ, ◌+◌, ◌*◌, ◌<◌, List, [], ◌∷◌, length, get_or, sym, refl, ap, ◌∙◌, ext_get_or, arith, rules}
 use Rattle.cycle.specs.Size.{string_count}
-use Rattle.cycle.specs.declared.values.Requests.{Requests}
-use Rattle.feed.proofs.Reports.Laying.{Laying, laying-none, laying-next, laying-end}
-use Rattle.writer.specs.RecordBytes.{drops_shown, drops_bytes}
-use Rattle.writer.proofs.Lengths.{drop-length}
+use Rattle.cycle.specs.Hall.{no_requests}
+use Rattle.feed.specs.Bytes.{parts}
+use Rattle.feed.proofs.Reports.Parts.{parts-length, parts_at}
+use Rattle.writer.specs.RecordBytes.{drop_bytes, drops_bytes}
 use Rattle.writer.proofs.record.put_drops.Goals as goal
 
--- one byte at place s
-laid : (requests : List Requests) (d x y : List ℕ) (s : ℕ) → Laying 1 string_count (drops_shown requests) d x s → s < string_count
-    → y ≡ drops_shown requests s → length (put_mid s (s + 1 - s) x y) ≡ length x
-    → Laying 1 string_count (drops_shown requests) d (put_mid s (s + 1 - s) x y) (s + 1)
-laid requests d x y s i h e same =
-    let one : 1 * s ≡ s = omega arith in
-    subst (λ (m : ℕ). Laying 1 string_count (drops_shown requests) d (put_mid m (m + 1 - m) x y) (s + 1)) one
-    (laying-next 1 string_count (drops_shown requests) d x y s (λ j. drop-length _) i h e
-    (ap (λ (m : ℕ). length (put_mid m (m + 1 - m) x y)) one ∙ same))
-
-pub loop-s-preserved : goal.loop-s-preserved
-loop-s-preserved c =
-    let a = c.args in
-    laid a.requests a.b.now c.loop-s.b c.put_drop.new.b c.loop-s.s c.loop-s.invariant c.loop-s-test.true
-    c.put_drop.ensures (search rules)
+-- parts of a byte each
+byte-parts : (l : List ℕ) (f : ℕ → ℕ) (n : ℕ) → length l ≡ n → ((i : ℕ) → i < n → get_or l i 0 ≡ f i) → l ≡ parts n (λ s. f s ∷ [])
+byte-parts l f n long at =
+    let all = parts-length 1 (λ s. f s ∷ []) (λ s. refl) n in
+    ext_get_or 0 l (parts n (λ s. f s ∷ [])) (omega arith)
+    (λ i h.
+    let below : i < n = omega (arith, long, h) in
+    let place : 1 * i + 0 ≡ i = omega arith in
+    at i below
+    ∙ sym (parts_at 1 (λ s. f s ∷ []) (λ s. refl) n i 0 below (omega arith))
+    ∙ ap (λ (j : ℕ). get_or (parts n (λ s. f s ∷ [])) j 0) place)
 
 pub returns : goal.returns
-unfolding drops_bytes
+unfolding drops_bytes drop_bytes
 returns c =
-    let a = c.args in
-    laying-end 1 string_count (drops_shown a.requests) a.b.now _ _ (search rules) c.loop-s.invariant c.loop-s-test.false
-
-pub loop-s-init : goal.loop-s-init
-loop-s-init c = laying-none _ _ _ _
+    let drops = c.map.ensures.items in
+    c.copy_from_slice.ensures.after
+    ∙ byte-parts c.map.result (λ s. (get_or c.args.requests s no_requests).drop) string_count drops.long
+    (λ i h. let w = drops.at i no_requests 0 h in search rules)

@@ -1,5 +1,6 @@
 -- `writer::record::put_minor` meets its contract. Assumes nothing.
-use mathlib.Core.Path.{◌≡◌, ap, ◌∙◌}
+use mathlib.Core.Path.{◌≡◌, ap, sym, ◌∙◌}
+use Rattle.std.proofs.Common.{length-take-le}
 use mathlib.Core.List.{◌++◌}
 use Prim.Native.Nat.{ℕ, ◌-◌}
 use native.Mathlib.Omega.{arith}
@@ -9,6 +10,9 @@ use Rattle.writer.specs.RecordBytes.{before_sum, summed, bytes_of}
 use Rattle.writer.proofs.Lengths.{common-length}
 use Rattle.writer.proofs.Laid.{minor-laid}
 use Rattle.writer.proofs.record.put_minor.Goals as goal
+
+pub slice_bounds-put_common-end-2 : goal.slice_bounds-put_common-end-2
+slice_bounds-put_common-end-2 c = sym (length-take-le minor_summed c.args.b.now (omega arith))
 
 pub returns : goal.returns
 unfolding bytes_of before_sum

@@ -9,4 +9,4 @@ unfolding fresh_hall
 returns c =
     let m = c.args.masks in
     ap₂ (λ s b. record { n = 0; masks = m; strings = replicate string_count s; banks = replicate module_count b })
-    c.fresh-string.ensures c.unknown-bank.ensures
+    c.fresh.ensures c.unknown.ensures

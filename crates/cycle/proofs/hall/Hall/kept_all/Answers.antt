@@ -4,4 +4,4 @@ use Rattle.cycle.proofs.hall.Hall.kept_all.Goals as goal
 
 pub returns : goal.returns
 unfolding kept_all
-returns c = rw (← c.kept_strings-strings.ensures, ← c.weighed_all-banks.ensures)
+returns c = rw (← c.kept_strings-self.ensures, ← c.weighed_all-self.ensures)

@@ -7,26 +7,26 @@ use Rattle.cycle.specs.Records.{major}
 use Rattle.cycle.specs.declared.answer.Answer.TheVariants.{Taken}
 use Rattle.cycle.specs.declared.hall.Hall.{Hall}
 use Rattle.cycle.specs.declared.hall.Stepped.{Stepped}
-use Rattle.cycle.specs.declared.number.Verdict.{Verdict}
+use Rattle.cycle.specs.Numbers.{Verdict}
 use Rattle.cycle.specs.declared.values.Major.{Major}
 use Rattle.cycle.proofs.hall.Hall.major.Goals as goal
 
 -- what a taken record gives back
-stepped_to : Hall → Stepped
+stepped_to : Hall → Stepped Hall
 stepped_to h = record { answer = Taken; hall = h }
 
-verdict : (h : Hall) (r : Major) (named : Bool) (by_number v u : Verdict) → named ≡ both_ways string_count h.masks r.requests
-    → by_number ≡ judged h.n r.minor.wire true → u ≡ unless_both_ways named by_number → u ≡ v → verdict_on h.n h.masks (major r) ≡ v
+verdict : (h : Hall) (r : Major) (named : Bool) (by_number v : Verdict) → named ≡ both_ways string_count h.masks r.requests
+    → by_number ≡ judged h.n r.minor.wire true → v ≡ unless_both_ways named by_number → verdict_on h.n h.masks (major r) ≡ v
 unfolding verdict_on
-verdict h r named by_number v u b n q e = ap₂ unless_both_ways (sym b) (sym n) ∙ sym q ∙ e
+verdict h r named by_number v b n q = ap₂ unless_both_ways (sym b) (sym n) ∙ sym q
 
-pub returns-in-Takes : goal.returns-in-Takes
+pub returns-in-Ok : goal.returns-in-Ok
 unfolding stepped taken stepped_to
-returns-in-Takes c =
-    rw (verdict c.args.self c.args.r _ _ _ _ c.both_ways.ensures c.judged.ensures c.unless-v.ensures c.in-Takes.is)
+returns-in-Ok c =
+    rw (verdict c.args.self c.args.r _ _ _ c.both_ways-named.ensures c.judged.ensures c.in-Ok.ensures)
     (ap stepped_to (c.major_taken.ensures ∙ ap (major_taken c.args.r) c.minor_taken.ensures))
 
-pub returns-in-Refuses : goal.returns-in-Refuses
+pub returns-in-Err : goal.returns-in-Err
 unfolding stepped
-returns-in-Refuses c =
-    rw (verdict c.args.self c.args.r _ _ _ _ c.both_ways.ensures c.judged.ensures c.unless-v.ensures c.in-Refuses.is)
+returns-in-Err c =
+    rw (verdict c.args.self c.args.r _ _ _ c.both_ways-named.ensures c.judged.ensures c.in-Err.ensures)

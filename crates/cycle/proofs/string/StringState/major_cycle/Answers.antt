@@ -20,8 +20,8 @@ returns-else-path c =
       ← bad,
       ← c.behind_closed-closed.ensures,
       ← c.without-heeded.ensures,
-      ← c.requested-a.ensures,
-      ← c.rechecked-b.ensures,
-      ← c.on_failure-d.ensures,
+      ← c.requested.ensures,
+      ← c.rechecked.ensures,
+      ← c.on_failure.ensures,
     )
     c.kept.ensures

@@ -1,6 +1,5 @@
 -- `cycle::string::StringState::manifolds` meets its contract. Assumes nothing.
-use Rattle.std.proofs.Common.{◌≡◌, ℕ, ◌-◌, ◌≤◌, List}
-use Rattle.cycle.specs.Size.{manifold_count}
+use Rattle.std.proofs.Common.{◌≡◌, ℕ, List}
 use Rattle.cycle.specs.Words.{Passed, passed}
 use Rattle.cycle.proofs.string.StringState.manifolds.Given as goal
 
@@ -9,8 +8,5 @@ abbrev pub passed_at : List ℕ → ℕ → ℕ → Passed
 passed_at saved fail reenable = record { fail = fail; reenable = reenable; saved = saved }
 
 abbrev pub invariant-loop-i : goal.invariant-loop-i
-invariant-loop-i l = (l.i ≤ manifold_count) ×
-    (passed_at l.saved l.fail l.reenable ≡ passed l.i l.words l.was l.valves (passed_at l.initial.saved l.initial.fail l.initial.reenable))
-
-abbrev pub decreases-loop-i : goal.decreases-loop-i
-decreases-loop-i l = manifold_count - l.i
+invariant-loop-i l =
+    passed_at l.saved l.fail l.reenable ≡ passed l.i l.masks.words l.was l.valves (passed_at l.initial.saved l.initial.fail l.initial.reenable)

@@ -17,8 +17,8 @@ returns-then-out-lt-OUTBOX_NEEDED c = record {
 few : (count claimed : ℕ) → count ≡ held_count claimed → count ≤ most_held
 few count claimed e = rw e (held-short claimed)
 
-pub slice_bounds-clear-count : goal.slice_bounds-clear-count
-slice_bounds-clear-count c = omega (arith, few c.held_count-n.result c.args.self.count c.held_count-n.ensures)
+pub slice_bounds-fill-count : goal.slice_bounds-fill-count
+slice_bounds-fill-count c = omega (arith, few c.held_count-n.result c.args.self.count c.held_count-n.ensures)
 
 pub slice_bounds-b-start : goal.slice_bounds-b-start
 slice_bounds-b-start c = omega (arith, few c.held_count-n.result c.args.self.count c.held_count-n.ensures)
@@ -30,13 +30,13 @@ pub slice_bounds-turn-end : goal.slice_bounds-turn-end
 slice_bounds-turn-end c =
     let m = c.args.self in
     let long : length m.held ≡ store_length = search rules in
-    sym (put-in-order m.count m.held c.held_count-n.result c.clear.new.s long c.held_count-n.ensures c.clear.ensures).long
+    sym (put-in-order m.count m.held c.held_count-n.result c.fill.new.self long c.held_count-n.ensures (c.fill.ensures.after (λ y e. e))).long
 
 pub turn-t-requires : goal.turn-t-requires
 turn-t-requires c =
     let m = c.args.self in
     let long : length m.held ≡ store_length = search rules in
-    let x = put-in-order m.count m.held c.held_count-n.result c.clear.new.s long c.held_count-n.ensures c.clear.ensures in
+    let x = put-in-order m.count m.held c.held_count-n.result c.fill.new.self long c.held_count-n.ensures (c.fill.ensures.after (λ y e. e)) in
     record {
       b_len = x.long;
       count_le_most_held = (x.short, x.order);
@@ -48,8 +48,8 @@ returns c =
     let a = c.args in
     let m = a.self in
     let long : length m.held ≡ store_length = search rules in
-    let x = put-in-order m.count m.held c.held_count-n.result c.clear.new.s long c.held_count-n.ensures c.clear.ensures in
+    let x = put-in-order m.count m.held c.held_count-n.result c.fill.new.self long c.held_count-n.ensures (c.fill.ensures.after (λ y e. e)) in
     let e = call-called m a.piece.now a.out.now c.if-out-lt-OUTBOX_NEEDED.false
     ∙ sym (called-in-order m _ a.piece.now a.out.now x.same) in
     let t = c.turn-t.ensures in
-    record { value = rw e (turned-outcome _ c.turn-t.result _ _ t); out_after = rw e t.outbox }
+    record { value = rw (e, c.unwrap_or.ensures) (turned-outcome _ c.turn-t.result _ _ t); out_after = rw e t.outbox }

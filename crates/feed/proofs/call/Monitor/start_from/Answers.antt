@@ -9,9 +9,10 @@ use Rattle.cycle.specs.declared.map.Masks.{Masks}
 use Rattle.cycle.specs.declared.hall.Hall.{Hall}
 use Rattle.feed.specs.Masks.{started_from}
 use Rattle.feed.proofs.call.Monitor.start_from.Goals as goal
+use Rattle.feed.specs.declared.call.Monitor.{Monitor}
 
 -- bytes of another number are no map
-abbrev none_of : Hall → Outcome
+abbrev none_of : Hall → Outcome Monitor
 none_of h = record { answer = NothingSettled; used = 0; monitor = holding h [] }
 
 pub returns-then-bytes-eq-MAP : goal.returns-then-bytes-eq-MAP
@@ -22,4 +23,4 @@ pub returns-else-bytes-eq-MAP : goal.returns-else-bytes-eq-MAP
 unfolding started_from
 returns-else-bytes-eq-MAP c =
     rw (ne_eqb _ _ c.if-bytes-eq-MAP.false) (ap none_of
-    (c.fresh-hall.ensures ∙ ap (λ (x : Masks). fresh_hall (replicate string_count x)) c.none-none.ensures))
+    (c.fresh.ensures ∙ ap (λ (x : Masks). fresh_hall (replicate string_count x)) c.none.ensures))

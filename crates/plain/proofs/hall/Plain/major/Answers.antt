@@ -15,7 +15,7 @@ use Rattle.plain.proofs.hall.Plain.major.Goals as goal
 pub returns-then-both_ways : goal.returns-then-both_ways
 returns-then-both_ways c =
     let a = c.args in
-    step-named (major a.r) a.self c.judged-v.ensures _ c.in-Takes.is
+    step-named (major a.r) a.self _ c.in-Ok.ensures
     (c.both_ways.ensures
     ∙ ap (λ (l : List StringSaid). both_ways string_count l a.self.strings) c.opened-said.ensures) c.if-both_ways.true
 
@@ -23,16 +23,16 @@ pub returns-else-both_ways : goal.returns-else-both_ways
 unfolding taken
 returns-else-both_ways c =
     let a = c.args in
-    let taken-to = c.in-Takes.next in
+    let taken-to = c.in-Ok.next in
     let said = c.opened-said.ensures in
     let after = c.cycled-after.ensures ∙ ap (λ (l : List StringSaid). cycled l taken-to true a.self) said in
-    step-takes (major a.r) a.self c.judged-v.ensures _ c.in-Takes.is
+    step-takes (major a.r) a.self _ c.in-Ok.ensures
     (c.both_ways.ensures ∙ ap (λ (l : List StringSaid). both_ways string_count l a.self.strings) said)
     c.if-both_ways.false
     (ap₂ (λ (p : Plain) (b : List Bank). record { n = p.n; strings = p.strings; banks = b }) after
-    (c.weighed_all-banks.ensures ∙ ap (λ (p : Plain). weighed_all module_count a.r.quantities p.banks) after))
+    (c.weighed_all-after.ensures ∙ ap (λ (p : Plain). weighed_all module_count a.r.quantities p.banks) after))
 
-pub returns-in-Refuses : goal.returns-in-Refuses
-returns-in-Refuses c =
+pub returns-in-Err : goal.returns-in-Err
+returns-in-Err c =
     let a = c.args in
-    step-refuses (major a.r) a.self c.judged-v.ensures _ c.in-Refuses.is
+    step-refuses (major a.r) a.self _ c.in-Err.ensures

@@ -6,4 +6,4 @@ use Rattle.plain.proofs.jet.Jet.gapped.Goals as goal
 
 pub returns : goal.returns
 unfolding gapped
-returns c = c.on_cleared.ensures ∙ ap (by (on_cleared c.args.missed)) c.off_cleared-cleared.ensures
+returns c = c.on_cleared.ensures ∙ ap (by (on_cleared c.args.next.missed)) c.off_cleared.ensures

@@ -5,4 +5,4 @@ use Rattle.plain.specs.Jet.{by}
 use Rattle.plain.proofs.jet.Jet.manifold.Goals as goal
 
 pub returns : goal.returns
-returns c = c.remembered.ensures ∙ ap (by (remembered c.args.now)) c.valve_moved-moved.ensures
+returns c = c.remembered.ensures ∙ ap (by (remembered c.args.now)) c.valve_moved.ensures

@@ -4,6 +4,6 @@ use Rattle.plain.proofs.jet.Jet.minor_steps.Goals as goal
 
 pub returns : goal.returns
 returns c =
-    minor-chain c.args.gap c.args.missed c.args.said c.args.self
-    c.recovered-path.ensures
-    c.gapped-gapped.ensures c.off_failure-off.ensures c.manifold.ensures
+    minor-chain c.args.next.gap c.args.next.missed c.args.said c.args.self
+    c.recovered.ensures
+    c.gapped.ensures c.off_failure.ensures c.manifold.ensures

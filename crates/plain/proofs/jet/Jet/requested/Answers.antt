@@ -5,6 +5,7 @@ use Rattle.cycle.specs.Jets.{reenabled, requested}
 use Rattle.plain.specs.Jet.{by}
 use Rattle.plain.specs.declared.jet.Jet.{Jet}
 use Rattle.plain.proofs.jet.Jet.requested.Goals as goal
+use Rattle.plain.proofs.jet.Jet.requested.Goals.{else-reenable-via-then-reenable+else-self, else-reenable-via-else-reenable}
 
 -- its valve remembered as open, the jet is re-enabled
 opened-heeds : (x : Jet) → x.standing.valve ≡ true → by reenabled x ≡ by (requested false true) x
@@ -26,11 +27,11 @@ returns-then-self c =
     rw (c.if-inhibit.false, c.if-reenable.true)
     (c.reenabled.ensures ∙ opened-heeds c.args.self c.if-self.true)
 
-pub returns-else-self : goal.returns-else-self
-unfolding requested
-returns-else-self c =
-    rw (c.if-inhibit.false, c.if-reenable.true) (closed-ignores c.args.self c.if-self.false)
-
 pub returns-else-reenable : goal.returns-else-reenable
 unfolding requested
-returns-else-reenable c = rw (c.if-inhibit.false, c.if-reenable.false)
+returns-else-reenable c =
+    elim c.else-reenable.branch [
+      | else-reenable-via-then-reenable+else-self w ↦
+          rw (c.if-inhibit.false, w.if-reenable.true) (closed-ignores c.args.self w.if-self.false)
+      | else-reenable-via-else-reenable w ↦ rw (c.if-inhibit.false, w.if-reenable.false)
+    ]

@@ -1,16 +1,16 @@
 -- `plain::jet::Jet::valve_moved` meets its contract. Assumes nothing.
-use mathlib.Core.Path.{◌∙◌}
+use Rattle.std.proofs.Common.{◌∙◌}
 use Rattle.plain.proofs.Steps.{still_open, closing, opening, still-closed}
 use Rattle.plain.proofs.jet.Jet.valve_moved.Goals as goal
 
-pub returns-then-now : goal.returns-then-now
-returns-then-now c = still_open _ c.if-self.true c.if-now.true
+pub returns-in-true-false : goal.returns-in-true-false
+returns-in-true-false c = c.valve_closes.ensures ∙ closing _ c.in-true-false.is-0 c.in-true-false.is-1
 
-pub returns-else-now : goal.returns-else-now
-returns-else-now c = c.valve_closes.ensures ∙ closing _ c.if-self.true c.if-now.false
+pub returns-in-false-true : goal.returns-in-false-true
+returns-in-false-true c = c.valve_opens.ensures ∙ opening _ c.in-false-true.is-0 c.in-false-true.is-1
 
-pub returns-then-now-2 : goal.returns-then-now-2
-returns-then-now-2 c = c.valve_opens.ensures ∙ opening _ c.if-self.false c.if-now-2.true
+pub returns-in_default : goal.returns-in_default
+returns-in_default c = still_open _ c.in_default.is-0 c.in_default.is-1
 
-pub returns-else-now-2 : goal.returns-else-now-2
-returns-else-now-2 c = still-closed _ c.if-self.false c.if-now-2.false
+pub returns-in_default-2 : goal.returns-in_default-2
+returns-in_default-2 c = still-closed _ c.in_default.is-0 c.in_default.is-1

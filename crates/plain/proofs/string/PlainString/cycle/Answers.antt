@@ -5,4 +5,4 @@ use Rattle.plain.proofs.string.PlainString.cycle.Goals as goal
 
 pub returns : goal.returns
 unfolding cycle
-returns c = c.only_mapped.ensures ∙ ap (only_mapped c.args.self) c.steps-after.ensures
+returns c = c.only_mapped.ensures ∙ ap (only_mapped c.args.self) c.steps.ensures

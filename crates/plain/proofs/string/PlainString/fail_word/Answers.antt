@@ -5,7 +5,7 @@ use mathlib.Core.Bool.{Bool, ◌&&◌}
 use native.Mathlib.Numerals.{add-one}
 use Rattle.bits.specs.Bit.{pack}
 use Rattle.bits.proofs.Words.{pack-next}
-use Rattle.cycle.proofs.Loops.{ended}
+use native.Mathlib.Omega.{arith}
 use Rattle.plain.specs.Jet.{mapped_jet}
 use Rattle.plain.specs.String.{jet_at}
 use Rattle.plain.specs.Shown.{fail_word}
@@ -20,15 +20,8 @@ unfolding fail_word
 loop-j-preserved c =
     let at = c.loop-j in
     let a = c.args in
-    let x = jet_at a.self.jets at.j in (
-      search rules,
-      rw add-one
-          (c.with_bit-w.ensures
-          ∙ pack-next at.j at.w (λ j. mapped_jet (jet_at a.self.jets j) && (jet_at a.self.jets j).standing.fail) _
-          c.loop-j-test.true at.invariant.1 (ap (λ (b : Bool). b && x.standing.fail) c.is_mapped.ensures)),
-    )
-
-pub returns : goal.returns
-returns c =
-    let a = c.args in
-    ended (λ j. fail_word j a.self.jets) c.loop-j.invariant c.loop-j-test.false
+    let x = jet_at a.self.jets at.j in
+    rw add-one
+    (c.with_bit-w.ensures
+    ∙ pack-next at.j at.w (λ j. mapped_jet (jet_at a.self.jets j) && (jet_at a.self.jets j).standing.fail) _
+    (omega arith) at.invariant (ap (λ (b : Bool). b && x.standing.fail) c.is_mapped.ensures))
