@@ -11,7 +11,7 @@
 // (619). At the end of its input, at a script that breaks off and at a piece that is too long the program stops silently.
 #![tactic(auto)]
 
-ghost use Rattle.std.specs.Prelude.{◌≡◌, ◌∷◌, ◌%◌, ◌<◌, ◌≤◌, IfSome};
+ghost use Rattle.std.specs.Prelude.{◌≡◌, true, ◌∷◌, ◌%◌, ◌<◌, ◌≤◌, length, IfSome};
 ghost use Rattle.cycle.specs.Answers.{number_of};
 ghost use Rattle.feed.specs.Bytes.{two, in_two};
 ghost use Rattle.feed.specs.Call.{call};
@@ -19,13 +19,14 @@ ghost use Rattle.feed.specs.Masks.{started_from};
 ghost use Rattle.calls.specs.Handed.{masks_given, kind_of, handed, handed_in, OneCall};
 
 mod layout;
+#[cfg(test)]
+mod tests;
 
 use crate::layout::{HALL, MASKS_FROM, STRINGS_FROM, hall_bytes, hall_in};
 use cycle::answer::Answer;
 use cycle::hall::Hall;
 use feed::call::{Monitor, Outcome};
 use feed::size::STORE;
-use lines::read::came;
 use std::io::{Read, Write};
 
 // The longest piece, and the longest outbox that one byte can name.
@@ -87,6 +88,13 @@ fn count_bytes(count: usize) -> [u8; 2]
     ensures { result ≡ in_two count }
 {
     low_two(count).to_be_bytes()
+}
+
+// Reads the next n bytes to the front of the buffer; no, where they do not fit or the input ends before.
+fn came(reader: &mut impl Read, buf: &mut [u8], n: usize) -> bool
+    ensures { result ≡ true → n ≤ length buf.new }
+{
+    n <= buf.len() && reader.read_exact(&mut buf[..n]).is_ok()
 }
 
 // The next bytes; none, where the input ends before.

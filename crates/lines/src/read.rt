@@ -1,5 +1,5 @@
 // Reading standard input, or another reader.
-ghost use Rattle.std.specs.Prelude.{◌≡◌, ◌≤◌, true, length};
+ghost use Rattle.std.specs.Prelude.{length};
 ghost use Rattle.lines.specs.Lines.{Read, First};
 
 use crate::line::{Moved, Stop, Stopped, UNASKED, number_of, try_again};
@@ -78,11 +78,4 @@ pub fn read_first(
         moved.bytes += n;
     }
     Ok(moved)
-}
-
-// Reads the next n bytes to the front of the buffer; no, where they do not fit or the input ends before.
-pub fn came(reader: &mut impl io::Read, buf: &mut [u8], n: usize) -> bool
-    ensures { result ≡ true → n ≤ length buf.new }
-{
-    n <= buf.len() && reader.read_exact(&mut buf[..n]).is_ok()
 }

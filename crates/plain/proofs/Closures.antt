@@ -1,4 +1,4 @@
--- What a closure that its calls leave as it was makes, called at each place: the definitions' lists, and whether any. Assumes nothing.
+-- What a closure that its calls leave as it was says, called at each place: whether any passes. Assumes nothing.
 use Rattle.std.proofs.Common.{◌≡◌, ℕ, ◌<◌, List, length, get_or, sym, refl, ap, ◌∙◌, arith}
 use denote.Param.Members.{Mut, Called}
 use Rattle.std.specs.Prelude.{Bool, true, false}
@@ -11,21 +11,6 @@ use Rattle.std.proofs.lemmas.Iterator.{cases_from_any, YieldsList-from_range}
 use Rattle.std.proofs.lemmas.List.FromFn.{length-range_with_len, get_or-range_with_len}
 use Rattle.bits.specs.Bit.{any}
 use Rattle.bits.proofs.Words.{any_at, any_none}
-use Rattle.std.specs.Array.{IsFromFnResult}
-use Rattle.cycle.specs.Size.{jet_count}
-use Rattle.cycle.proofs.Made.{made}
-use Rattle.plain.specs.Jet.{past_jet}
-use Rattle.plain.specs.String.{each_of, each_jet}
-use Rattle.plain.specs.declared.jet.Jet.{Jet}
-use Rattle.plain.specs.declared.string.PlainString.{PlainString}
-
--- a string, each of whose jets takes a step
-pub made-jets : {F : Type 0} (g : Mut F (ℕ × Unit {0}) Jet) (rule : ℕ → Jet → Jet) (s : PlainString) → length s.jets ≡ jet_count → (f : F)
-    → ((j : ℕ) (y : Jet) (q : F) → Called g f (j, tt) y q → (q ≡ f) × (y ≡ rule j (get_or s.jets j past_jet))) → (ys : List Jet)
-    → IsFromFnResult g f ys jet_count → record { jets = ys; close = s.close } ≡ each_jet rule s
-unfolding each_of
-made-jets g rule s long f gives ys items =
-    ap (λ (l : List Jet). record { jets = l; close = s.close }) (made g f rule past_jet s.jets ys jet_count long items gives)
 
 -- whether any of the numbers below n passes
 module _ {F : Type 0} (g : Mut F (ℕ × Unit {0}) Bool) (rule : ℕ → Bool) (n : ℕ) (f : F)

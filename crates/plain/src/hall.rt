@@ -43,18 +43,20 @@ impl Plain {
         (0..STRINGS).any(|s| self.strings[s].both_ways(said[s]))
     }
 
-    // The cycle of every string, and the new n.
-    fn cycled(mut self, said: [StringSaid; STRINGS], next: Next, major: bool) -> Plain
-        ensures { result ≡ cycled said next major self }
+    // The cycle of every string, in place, and the new n.
+    fn cycled(&mut self, said: &[StringSaid; STRINGS], next: Next, major: bool)
+        ensures { self.new ≡ cycled said.now next major self.old }
     {
-        self.strings = array::from_fn(|s| self.strings[s].cycle(said[s], next, major));
+        for s in 0..STRINGS {
+            self.strings[s] = self.strings[s].cycle(said[s], next, major);
+        }
         self.n = next.n;
-        self
     }
 
     // A minor record's values: `judged` (cycle's) gives 1 or 2, then 3, then 4. It has no requests and no temperatures: they stand as 0,
-    // and only major cycles look at them.
-    pub fn minor(self, r: Minor) -> Stepped<Plain>
+    // and only major cycles look at them. Neither this nor `major` is a part of a caller's code: there both would want stack at once.
+    #[inline(never)]
+    pub fn minor(mut self, r: Minor) -> Stepped<Plain>
         ensures { result ≡ stepped (Record.minor r) self }
     {
         match judged(self.n, r.wire, false) {
@@ -64,9 +66,10 @@ impl Plain {
                 };
                 let none = Requests::default();
                 let said = opened(r, [zero; STRINGS], [none; STRINGS], self.strings);
+                self.cycled(&said, next, false);
                 Stepped {
                     answer: Answer::Taken,
-                    hall: self.cycled(said, next, false),
+                    hall: self,
                 }
             }
             Err(answer) => Stepped { answer, hall: self },
@@ -75,7 +78,8 @@ impl Plain {
 
     // A major record's values. 7 is "tested after 4". "Once per major cycle, for each module, whatever the path bits": the banks (000,
     // 2.2.8: FUEL_IMBALANCE), by cycle's `weighed_all`.
-    pub fn major(self, r: Major) -> Stepped<Plain>
+    #[inline(never)]
+    pub fn major(mut self, r: Major) -> Stepped<Plain>
         ensures { result ≡ stepped (Record.major r) self }
     {
         match judged(self.n, r.minor.wire, true) {
@@ -87,11 +91,11 @@ impl Plain {
                         hall: self,
                     };
                 }
-                let mut after = self.cycled(said, next, true);
-                after.banks = weighed_all(after.banks, r.quantities);
+                self.cycled(&said, next, true);
+                self.banks = weighed_all(self.banks, r.quantities);
                 Stepped {
                     answer: Answer::Taken,
-                    hall: after,
+                    hall: self,
                 }
             }
             Err(answer) => Stepped { answer, hall: self },

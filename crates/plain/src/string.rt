@@ -34,7 +34,9 @@ impl PlainString {
     fn path_lost(mut self) -> PlainString
         ensures { result ≡ path_lost self }
     {
-        self.jets = array::from_fn(|j| self.jets[j].path_lost());
+        for j in 0..JETS {
+            self.jets[j] = self.jets[j].path_lost();
+        }
         self
     }
 
@@ -42,7 +44,9 @@ impl PlainString {
     fn minor_steps(mut self, said: StringSaid, next: Next) -> PlainString
         ensures { result ≡ minor_steps said next.gap next.missed self }
     {
-        self.jets = array::from_fn(|j| self.jets[j].minor_steps(said.jets[j], next));
+        for j in 0..JETS {
+            self.jets[j] = self.jets[j].minor_steps(said.jets[j], next);
+        }
         self
     }
 
@@ -50,10 +54,9 @@ impl PlainString {
     fn requested(mut self, said: StringSaid) -> PlainString
         ensures { result ≡ requested said self }
     {
-        self.jets = array::from_fn(|j| self.jets[j].requested(
-            said.jets[j].inhibit,
-            said.jets[j].reenable,
-        ));
+        for j in 0..JETS {
+            self.jets[j] = self.jets[j].requested(said.jets[j].inhibit, said.jets[j].reenable);
+        }
         self
     }
 
@@ -85,7 +88,9 @@ impl PlainString {
     fn on_failure(mut self, said: StringSaid) -> PlainString
         ensures { result ≡ on_failure said self }
     {
-        self.jets = array::from_fn(|j| self.jets[j].on_failure(said.jets[j].is_bad()));
+        for j in 0..JETS {
+            self.jets[j] = self.jets[j].on_failure(said.jets[j].is_bad());
+        }
         self
     }
 
@@ -93,7 +98,9 @@ impl PlainString {
     fn kept(mut self) -> PlainString
         ensures { result ≡ kept self }
     {
-        self.jets = array::from_fn(|j| self.jets[j].kept());
+        for j in 0..JETS {
+            self.jets[j] = self.jets[j].kept();
+        }
         self
     }
 
@@ -101,7 +108,9 @@ impl PlainString {
     fn only_mapped(mut self, before: PlainString) -> PlainString
         ensures { result ≡ only_mapped before self }
     {
-        self.jets = array::from_fn(|j| self.jets[j].if_mapped(before.jets[j]));
+        for j in 0..JETS {
+            self.jets[j] = self.jets[j].if_mapped(before.jets[j]);
+        }
         self
     }
 

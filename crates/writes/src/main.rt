@@ -13,13 +13,21 @@ ghost use Rattle.std.specs.Prelude.{◌≡◌, true, ◌+◌, ◌≤◌, length,
 ghost use Rattle.writes.specs.Request.{allowed, reply};
 
 mod request;
+#[cfg(test)]
+mod tests;
 
 use crate::request::{
     HEADER_LENGTH, Header, REPLY_LENGTH, Request, allowed, header_in, put_reply, values_length,
 };
 use feed::size::{MAJOR_LENGTH, MARK_LENGTH};
-use lines::read::came;
 use std::io::{Read, Write};
+
+// Reads the next n bytes to the front of the buffer; no, where they do not fit or the input ends before.
+fn came(reader: &mut impl Read, buf: &mut [u8], n: usize) -> bool
+    ensures { result ≡ true → n ≤ length buf.new }
+{
+    n <= buf.len() && reader.read_exact(&mut buf[..n]).is_ok()
+}
 
 // The next request; none at another kind, at a longer outbox and where the input ends before. Its values come to the places that they have
 // in a record, behind those of a mark.

@@ -1,17 +1,23 @@
 -- `plain::hall::Plain::cycled` meets its contract. Assumes nothing.
-use Rattle.std.proofs.Common.{rules, List, get_or, ap}
-use Rattle.cycle.specs.Size.{string_count}
+use Rattle.std.proofs.Common.{◌≡◌, ◌+◌, rules, refl, get_or, slice_set, ap}
+use Rattle.cycle.specs.Each.{each}
+use Rattle.cycle.proofs.Loops.{turned}
 use Rattle.plain.specs.Said.{silent, past_string}
 use Rattle.plain.specs.String.{cycle}
 use Rattle.plain.specs.Hall.{cycles}
-use Rattle.plain.specs.declared.string.PlainString.{PlainString}
-use Rattle.cycle.proofs.Made.{made}
+use Rattle.plain.specs.declared.hall.Plain.{Plain}
 use Rattle.plain.proofs.hall.Plain.cycled.Goals as goal
 
-pub returns : goal.returns
+pub loop-s-init : goal.loop-s-init
+unfolding cycles each
+loop-s-init c = search rules
+
+pub loop-s-preserved : goal.loop-s-preserved
 unfolding cycles
-returns c =
+loop-s-preserved c =
     let a = c.args in
-    ap (λ (l : List PlainString). record { n = a.next.n; strings = l; banks = a.self.banks })
-    (made _ _ (λ s x. cycle (get_or a.said s silent) a.next a.major x) past_string a.self.strings _ string_count (search rules) c.from_fn-self.ensures.items
-    (λ s y f k. search rules))
+    let at = c.loop-s in
+    let strings : slice_set at.self.strings at.s c.cycle.result ≡ cycles (at.s + 1) a.said.now a.next a.major a.self.now.strings =
+    turned (λ s x. cycle (get_or a.said.now s silent) a.next a.major x) past_string a.self.now.strings at.s at.self.strings c.cycle.result
+    (ap (λ (p : Plain). p.strings) at.invariant) c.cycle.ensures in
+    rw (ap (λ (p : Plain). p.n) at.invariant, strings, ap (λ (p : Plain). p.banks) at.invariant) refl

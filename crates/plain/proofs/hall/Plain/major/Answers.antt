@@ -25,12 +25,12 @@ returns-else-both_ways c =
     let a = c.args in
     let taken-to = c.in-Ok.next in
     let said = c.opened-said.ensures in
-    let after = c.cycled-after.ensures ∙ ap (λ (l : List StringSaid). cycled l taken-to true a.self) said in
+    let after = c.cycled.ensures ∙ ap (λ (l : List StringSaid). cycled l taken-to true a.self) said in
     step-takes (major a.r) a.self _ c.in-Ok.ensures
     (c.both_ways.ensures ∙ ap (λ (l : List StringSaid). both_ways string_count l a.self.strings) said)
     c.if-both_ways.false
     (ap₂ (λ (p : Plain) (b : List Bank). record { n = p.n; strings = p.strings; banks = b }) after
-    (c.weighed_all-after.ensures ∙ ap (λ (p : Plain). weighed_all module_count a.r.quantities p.banks) after))
+    (c.weighed_all-self.ensures ∙ ap (λ (p : Plain). weighed_all module_count a.r.quantities p.banks) after))
 
 pub returns-in-Err : goal.returns-in-Err
 returns-in-Err c =

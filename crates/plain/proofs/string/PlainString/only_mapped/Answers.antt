@@ -1,10 +1,15 @@
 -- `plain::string::PlainString::only_mapped` meets its contract. Assumes nothing.
 use Rattle.std.proofs.Common.{rules}
-use Rattle.plain.specs.String.{keep_rule}
-use Rattle.plain.proofs.Closures.{made-jets}
+use Rattle.cycle.specs.Each.{each}
+use Rattle.plain.specs.String.{each_of, keep_rule}
+use Rattle.plain.proofs.Loops.{jets-turned}
 use Rattle.plain.proofs.string.PlainString.only_mapped.Goals as goal
 
-pub returns : goal.returns
-returns c =
+pub loop-j-init : goal.loop-j-init
+unfolding each_of each
+loop-j-init c = search rules
+
+pub loop-j-preserved : goal.loop-j-preserved
+loop-j-preserved c =
     let a = c.args in
-    made-jets _ (keep_rule a.before) a.self (search rules) _ (λ j y f k. search rules) _ c.from_fn-self.ensures.items
+    jets-turned (keep_rule a.before) a.self c.loop-j.self c.loop-j.j c.if_mapped.result c.loop-j.invariant c.if_mapped.ensures
