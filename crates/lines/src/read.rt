@@ -1,5 +1,5 @@
 // Reading standard input, or another reader.
-ghost use Rattle.std.specs.Prelude.{length};
+ghost use Rattle.std.specs.Prelude.{◌≡◌, ◌≤◌, true, length};
 ghost use Rattle.lines.specs.Lines.{Read, First};
 
 use crate::line::{Moved, Stop, Stopped, UNASKED, number_of, try_again};
@@ -78,4 +78,12 @@ pub fn read_first(
         moved.bytes += n;
     }
     Ok(moved)
+}
+
+// Reads the next n bytes to the front of the buffer; no, where they do not fit or the reader's own `read_exact` fails, as where the input ends
+// before. Unlike in the two above, what is tried again is that reader's choice, and of a failure no more is told than this no.
+pub fn came(reader: &mut impl io::Read, buf: &mut [u8], n: usize) -> bool
+    ensures { result ≡ true → n ≤ length buf.new }
+{
+    n <= buf.len() && reader.read_exact(&mut buf[..n]).is_ok()
 }

@@ -2,7 +2,7 @@
 ghost use Rattle.std.specs.Prelude.{◌≤◌, IfOk};
 
 use crate::line::{EAGAIN, EINTR, Moved, Stop, Stopped};
-use crate::read::{read_first, read_ready};
+use crate::read::{came, read_first, read_ready};
 use crate::write::write_all;
 use std::cell::Cell;
 use std::io;
@@ -208,4 +208,30 @@ fn what_came_is_told_where_the_input_ends(rt: HostRuntime) {
     assert_eq!(rt; told.bytes, 5);
     assert_eq!(rt; told.tries, 1);
     assert_eq!(rt; told.answer, 0);
+}
+
+#[test]
+fn what_fits_comes(rt: HostRuntime) {
+    let answers = [Says::Moves(9), Says::Moves(7)];
+    let mut buf = [0u8; 16];
+    let mut input = Scripted {
+        answers: &answers,
+        at: 0,
+    };
+    assert!(rt; came(&mut input, &mut buf, 16));
+    assert!(rt; !came(&mut input, &mut buf, 1));
+    assert!(rt; !came(&mut input, &mut buf, 17));
+}
+
+#[test]
+fn no_more_comes_than_is_asked_for(rt: HostRuntime) {
+    let answers = [Says::Moves(9), Says::Moves(7)];
+    let mut buf = [0u8; 16];
+    let mut input = Scripted {
+        answers: &answers,
+        at: 0,
+    };
+    assert!(rt; came(&mut input, &mut buf, 9));
+    assert!(rt; came(&mut input, &mut buf, 7));
+    assert!(rt; !came(&mut input, &mut buf, 1));
 }

@@ -130,6 +130,8 @@ use Rattle.lines.specs.contracts.read.read_ready as read-ready
 use Rattle.lines.proofs.read.read_ready.Reads as read-ready-reads
 use Rattle.lines.specs.contracts.read.read_first as read_first
 use Rattle.lines.proofs.read.read_first.Reads as read_first-reads
+use Rattle.lines.specs.contracts.read.came as came
+use Rattle.lines.proofs.read.came.Reads as came-reads
 use Rattle.lines.specs.contracts.write.write_all as write-all
 use Rattle.lines.proofs.write.write_all.Reads as write-all-reads
 use Rattle.lines.specs.contracts.ending.ended_at as ended_at
@@ -340,6 +342,11 @@ module _ (R C : RattleType) (lr : Laws R) (lc : Laws C) (r : Reading.Ghosts R.De
   pub read-first-asks : AsksNothing (read_first.ended R C r dr k dk) (read_first-reads.Pre R C lr lc r dr k dk)
   read-first-asks κs a = (unborrowed _ R.lives e, unborrowed _ C.lives f)
 
+-- and for every such reader
+module _ (R : RattleType) (lr : Laws R) (r : Reading.Ghosts R.Denot) (dr : Dict) (e : R.lives ≡ []) where
+  pub came-asks : AsksNothing (came.ended R r dr) (came-reads.Pre R lr r dr)
+  came-asks κs a = unborrowed _ R.lives e
+
 -- and for every such writer and clock
 module _ (W C : RattleType) (lw : Laws W) (lc : Laws C) (r : Writing.Ghosts W.Denot) (dr : Dict) (k : Clock.Ghosts C.Denot) (dk : Dict)
     (e : W.lives ≡ []) (f : C.lives ≡ []) where
@@ -363,6 +370,9 @@ module _ (lr : Laws input) (lw : Laws output) (lc : Laws host) (r : Reading.Ghos
 
   pub stdin-first-asks : AsksNothing (read_first.ended input host r dr k dk) (read_first-reads.Pre input host lr lc r dr k dk)
   stdin-first-asks = read-first-asks input host lr lc r dr k dk refl refl
+
+  pub stdin-came-asks : AsksNothing (came.ended input r dr) (came-reads.Pre input lr r dr)
+  stdin-came-asks = came-asks input lr r dr refl
 
   pub stdout-all-asks : AsksNothing (write-all.ended output host w dw k dk) (write-all-reads.Pre output host lw lc w dw k dk)
   stdout-all-asks = write-all-asks output host lw lc w dw k dk refl refl

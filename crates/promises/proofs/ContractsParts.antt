@@ -1,7 +1,9 @@
 -- The same link for the parts that a program may call by themselves: whatever the contract allows is the outcome of the definition that the
 -- front door reaches, or that stands beside it. Assumes nothing.
 use mathlib.Core.Path.{◌≡◌}
+use mathlib.Core.Bool.{true}
 use mathlib.Core.List.{[]}
+use Prim.Native.Nat.{◌≤◌}
 use lib.ListN.{length}
 use denote.RattleType.{RattleType}
 use denote.Param.Laws.{Laws}
@@ -123,6 +125,8 @@ use Rattle.lines.specs.contracts.read.read_ready as read-ready
 use Rattle.lines.proofs.read.read_ready.Reads as read-ready-reads
 use Rattle.lines.specs.contracts.read.read_first as read_first
 use Rattle.lines.proofs.read.read_first.Reads as read_first-reads
+use Rattle.lines.specs.contracts.read.came as came
+use Rattle.lines.proofs.read.came.Reads as came-reads
 use Rattle.lines.specs.contracts.write.write_all as write-all
 use Rattle.lines.proofs.write.write_all.Reads as write-all-reads
 use Rattle.lines.specs.contracts.ending.ended_at as ended_at
@@ -271,6 +275,10 @@ module _ (R C : RattleType) (lr : Laws R) (lc : Laws C) (r : Reading.Ghosts R.De
   pub read-first-is : Says (read_first.ended R C r dr k dk) (read_first-reads.Post R C lr lc r dr k dk)
       (λ κs a x w. First a.1.1.1.0 (length w.1.1.0) x)
   read-first-is κs a x w p = p
+
+module _ (R : RattleType) (lr : Laws R) (r : Reading.Ghosts R.Denot) (dr : Dict) where
+  pub came-is : Says (came.ended R r dr) (came-reads.Post R lr r dr) (λ κs a x w. x ≡ true → a.1.1.0 ≤ length w.1.0)
+  came-is κs a x w p = p
 
 module _ (W C : RattleType) (lw : Laws W) (lc : Laws C) (r : Writing.Ghosts W.Denot) (dr : Dict) (k : Clock.Ghosts C.Denot) (dk : Dict) where
   pub write-all-is : Says (write-all.ended W C r dr k dk) (write-all-reads.Post W C lw lc r dr k dk)
